@@ -1,6 +1,7 @@
 -- Words are taken from the left, each by its field: what the first words spell, followed by what
 -- the other words spell by the remaining fields, is what all words spell by all fields.
-use Rattle.dns_rdata.proofs.Common.{◌≡◌, ℕ, zero, suc, inl, inr, Bool, true, false, nat_le, MatchBool, le-leb, lt-leb, FieldsFaultIs, field_fault, subst, subst₂, ◌+◌, ◌<◌, ◌≤◌, List, [], ◌∷◌, ◌++◌, length, drop, slice_get, Some, refl, ap, ◌∙◌, arith, none-some, same_Some, Octets, DomainName, Field, Word, SaysWord, SaysFields, append_assoc, length-append, length-map, suc-eq-add-one, canonical_octets, Appends}
+use Rattle.dns_spec.specs.AllFaults.{FaultyField}
+use Rattle.dns_rdata.proofs.Common.{◌≡◌, ℕ, zero, suc, inl, inr, Bool, true, false, nat_le, MatchBool, le-leb, lt-leb, FieldsFaultIs, field_fault, subst, subst₂, ◌+◌, ◌<◌, ◌≤◌, List, [], ◌∷◌, ◌++◌, length, drop, slice_get, Some, refl, ap, ◌∙◌, arith, none-some, same_Some, Octets, DomainName, Field, Word, SaysWord, SaysFields, append_assoc, length-append, length-drop, length-map, suc-eq-add-one, canonical_octets, Appends}
 
 -- the words spell d in order, one word for each field, and e is d with its names in lower case
 abbrev pub SaysKept : List Field → DomainName → List Word → Octets → Octets → Type 0
@@ -42,6 +43,10 @@ pub record Taken (fs left : List Field) (origin : DomainName) (ws rest : List Wo
       → SaysKept fs origin ws (spelled ++ d) (octets ++ e)
   pub faulty : (k : ℕ) → FieldsFaultIs left origin (length octets) rest k
       → FieldsFaultIs fs origin 0 ws k
+  pub taken : ℕ
+  pub passed : length ws ≡ taken + length rest
+  pub at : (j : ℕ) → FaultyField left origin (length octets) rest j
+      → FaultyField fs origin 0 ws (taken + j)
 
 -- the fields from index i on are the field f and those after it
 next_field : (fs : List Field) (i : ℕ) (f : Field)
@@ -59,6 +64,9 @@ module _ (fs : List Field) (origin : DomainName) (ws : List Word) where
     count = omega arith;
     on = λ d e h. h;
     faulty = λ k h. h;
+    taken = 0;
+    passed = omega arith;
+    at = λ j h. subst (FaultyField fs origin 0 ws) (omega arith) h;
   }
 
   -- the next word is paired with the field at its index
@@ -68,12 +76,22 @@ module _ (fs : List Field) (origin : DomainName) (ws : List Word) where
   word-next i f w mid rest x at is t = subst₂ (λ left rest. Taken fs left origin ws rest x)
       (next_field fs i f at ∙ ap (λ k. f ∷ drop k fs) (suc-eq-add-one i)) is t
 
+  -- as many words were taken as the index of the next field
+  pub taken_is : (i : ℕ) (f : Field) (w : Word) (rest : List Word) (x : Octets)
+      (t : Taken fs (f ∷ drop (i + 1) fs) origin ws (w ∷ rest) x) → i < length fs → t.taken ≡ i
+  taken_is i f w rest x t within =
+      let left = length-drop (i + 1) fs in omega (arith, left, t.count, t.passed, within)
+
   module _ (f : Field) (left : List Field) (w : Word) (rest : List Word) (x : Octets)
       (t : Taken fs (f ∷ left) origin ws (w ∷ rest) x) where
     -- if the next word does not spell its field, all words have its fault
     pub word-refused : ((d : Octets) → SaysWord f origin w d → ⊥)
         → FieldsFaultIs fs origin 0 ws (field_fault f)
     word-refused none = t.faulty (field_fault f) (inl (none, refl))
+
+    pub word-at : ((d : Octets) → SaysWord f origin w d → ⊥)
+        → FaultyField fs origin 0 ws (t.taken + 0)
+    word-at none = t.at 0 (inl (none, refl))
 
     -- one more word was taken
     module _ (y : Octets) (a : Appends (canonical_octets f) (SaysWord f origin w) x y) where
@@ -96,7 +114,25 @@ module _ (fs : List Field) (origin : DomainName) (ws : List Word) where
         faulty = λ k h. more k (at_true _ _ (le-leb (length x + length a.spelled) 65535
             (omega (arith, grown, short)))
             (subst (λ n. FieldsFaultIs left origin n rest k) grown h));
+        taken = t.taken + 1;
+        passed = omega (arith, t.passed);
+        at = λ j h. subst (FaultyField fs origin 0 ws) (omega arith)
+            (t.at (1 + j) (inr (
+              a.spelled,
+              a.said,
+              at_true _ _
+                  (le-leb (length x + length a.spelled) 65535 (omega (arith, grown, short)))
+                  (j, subst (λ n. FaultyField left origin n rest j) grown h, refl),
+            )));
       }
+
+      pub long-at : 65535 < length y → FaultyField fs origin 0 ws (t.taken + 0)
+      long-at over = t.at 0 (inr (
+        a.spelled,
+        a.said,
+        at_false _ _ (lt-leb (length x + length a.spelled) 65535
+            (omega (arith, grown, over))) refl,
+      ))
 
       -- if the octets of the next word make the data too long, all words have fault 5, `BadString`
       pub too-long : 65535 < length y → FieldsFaultIs fs origin 0 ws 5

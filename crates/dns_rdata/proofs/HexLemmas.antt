@@ -1,4 +1,8 @@
 -- Hex digits, read from left to right, two per octet.
+use Rattle.std.specs.Prelude.{Bool}
+use Rattle.std.specs.List.{list_all}
+use Rattle.std.specs.Option.{is_some}
+use Rattle.std.specs.Prelude.{cond}
 use Rattle.dns_rdata.proofs.Common.{◌%◌, ◌&&◌, ◌≡◌, ℕ, ◌+◌, ◌*◌, ◌<◌, inl, inr, ◌⊎◌, true, false, [], ◌∷◌, ◌++◌, length, refl, sym, ◌∙◌, ap, arith, option_map, option_and_then, is_ascii_hexdigit, digit_value, cases_Bool, Octets, hex_octets, Option, Some, None, append_assoc, append-nil, hex_front, AppendsHex}
 use Rattle.dns_spec.proofs.Common.{none-some}
 
@@ -101,3 +105,22 @@ even_digits (h ∷ l ∷ text) d e = by_cases (even_digits text)
         let f : None ≡ Some d = rw (digits, none) at e in absurd (none-some d f)
     by_cases even (Some x) some (inl digits) = omega (arith, even x some)
     by_cases even o is (inr bad) = let f : None ≡ Some d = rw bad at e in absurd (none-some d f)
+
+-- octets in hex are an even number of hex digits
+pub hex_tested : (text : Octets) → length text % 2 ≡ 0
+    → is_some (hex_octets text) ≡ list_all is_ascii_hexdigit text
+unfolding hex_octets
+hex_tested [] even = refl
+hex_tested (h ∷ []) even = absurd (omega (arith, even))
+hex_tested (h ∷ l ∷ text) even =
+    go (is_ascii_hexdigit h) (is_ascii_hexdigit l) (hex_octets text)
+    (hex_tested text (omega (arith, even)))
+  where
+    go : (a b : Bool) (d : Option Octets) → is_some d ≡ list_all is_ascii_hexdigit text
+        → is_some (cond (a && b)
+        (option_map (λ d. (16 * digit_value h + digit_value l) ∷ d) d) None)
+        ≡ (a && (b && list_all is_ascii_hexdigit text))
+    go true true None e = e
+    go true true (Some d) e = e
+    go true false d e = refl
+    go false b d e = refl

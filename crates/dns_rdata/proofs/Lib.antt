@@ -7,6 +7,7 @@ pub mod HexLemmas
 pub mod Ipv6Lemmas
 pub mod Ipv6TextLemmas
 pub mod UnknownLemmas
+pub mod UnknownFaults
 pub mod FormWords
 pub mod FormFronts
 pub mod TypedData

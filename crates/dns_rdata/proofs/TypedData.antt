@@ -1,6 +1,8 @@
 -- What words spell by the fields of a type is valid data of the type, provided that it is not too
 -- long. What is stored is that data, with its names in lower case.
 use Rattle.dns_rdata.proofs.Common.{◌≡◌, ◌↔◌, ℕ, zero, suc, ◌==◌, ◌≤◌, ◌⊎◌, inl, inr, true, false, nat_le, List, [], ◌∷◌, ◌++◌, map, max, length, replicate, Option, Some, refl, sym, ap, ◌∙◌, subst, arith, append-nil, length-append, list_all, is_some, option_map, unwrap_or, MatchOption, DataFaultIs, FieldsFaultIs, TypedFaultIs, to_ascii_lowercase, and_parts, and_from, le-leb, ne_eqb, false≢true, drop_at, flat_map-cons, Octets, DomainName, number, ipv4, ipv6, Field, domain, string, strings, anything, Part, octets, name, part_octets, part_folded, joined, strings_front, field_front, are_strings, cut, other_type, row_of, fields_of, Valid, Word, SaysWord, SaysFields, SaysTyped, SaysAsSpelled, Says, are_strings_alone, word_fields, map-lowercase-wire, IsName-is_name, cut-domain, cut-step, lowered_data, length-bytes_high_first, canonical_octets, is_marked}
+use Rattle.dns_spec.specs.AllFaults.{FaultyData, FaultyField, FaultyTyped}
+use Rattle.std.specs.Prelude.{None, min, ◌+◌}
 use Rattle.dns_spec.proofs.Common.{TypeRow, or_cases}
 use Rattle.dns_rdata.proofs.NameFronts.{strings_after}
 use Rattle.dns_rdata.proofs.Ipv6Lemmas.{length-ipv6}
@@ -127,6 +129,20 @@ fault_typed : (t : ℕ) (origin : DomainName) (ws : List Word) (k : ℕ)
 fault_typed t origin [] k plain h = h
 fault_typed t origin (w ∷ ws) k plain h = grind arith
 
+-- and so is the faulty word
+faulty_typed : (t : ℕ) (origin : DomainName) (ws : List Word) (i : ℕ) → is_marked ws ≡ false
+    → (length ws ≡ 0 → ⊥) → FaultyTyped t origin ws i → FaultyData t ws origin i
+faulty_typed t origin [] i plain some h = absurd (some refl)
+faulty_typed t origin (w ∷ ws) i plain some h = grind arith
+
+-- a type without a mnemonic
+pub no_row_at : (t : ℕ) (origin : DomainName) (ws : List Word) → is_marked ws ≡ false
+    → row_of t ≡ None → FaultyData t ws origin (min (length ws) 1)
+no_row_at t origin [] plain none = omega arith
+no_row_at t origin (w ∷ ws) plain none =
+    faulty_typed t origin (w ∷ ws) (min (length (w ∷ ws)) 1) plain (λ e. absurd (omega (arith, e)))
+    (rw none (omega arith))
+
 -- the lower-case data that words spell is valid too
 pub said_valid : (t : ℕ) (ws : List Word) (origin : DomainName) (d : Octets)
     → Says t ws origin d → Valid t d
@@ -140,6 +156,35 @@ module _ (t : ℕ) (row : TypeRow) (origin : DomainName) (ws : List Word) (count
       → FieldsFaultIs (word_fields count row.fields) origin 0 ws k → DataFaultIs t ws origin k
   typed_fault k many fault =
       fault_typed t origin ws k plain (rw (sym is) (rw (sym counted) (rw (sym many) fault)))
+
+  pub count_at : false ≡ (length (word_fields count row.fields) == count)
+      → FaultyData t ws origin 0
+  count_at few = by_words ws plain counted
+    where
+      by_words : (ws : List Word) → is_marked ws ≡ false → count ≡ length ws
+          → FaultyData t ws origin 0
+      by_words [] plain counted = refl
+      by_words (w ∷ ws) plain counted =
+          faulty_typed t origin (w ∷ ws) 0 plain (λ e. absurd (omega (arith, e)))
+          (rw (sym is) (rw (sym counted) (rw (sym few) refl)))
+
+  typed_at : (i : ℕ) → true ≡ (length (word_fields count row.fields) == count)
+      → FaultyField (word_fields count row.fields) origin 0 ws i → FaultyData t ws origin (i + 1)
+  typed_at i many fault =
+      faulty_typed t origin ws (i + 1) plain (some ws (word_fields count row.fields) fault)
+      (rw (sym is) (rw (sym counted) (rw (sym many) (i, fault, omega arith))))
+    where
+      some : (ws : List Word) (fs : List Field) → FaultyField fs origin 0 ws i → length ws ≡ 0 → ⊥
+      some [] [] h e = h
+      some [] (f ∷ fs) h e = h
+      some (w ∷ ws) fs h e = omega (arith, e)
+
+  pub typed_at_place : (i place : ℕ)
+      → true ≡ (length (word_fields count row.fields) == count) → i ≡ place
+      → FaultyField (word_fields count row.fields) origin 0 ws (i + 0)
+      → FaultyData t ws origin (place + 1)
+  typed_at_place i place many is_place fault =
+      subst (FaultyData t ws origin) (omega (arith, is_place)) (typed_at (i + 0) many fault)
 
   -- all words were taken
   module _ (e : Octets) (a : Taken (word_fields count row.fields) [] origin ws [] e) where

@@ -4,13 +4,14 @@ ghost use Rattle.dns_spec.specs.Names.{Octets};
 ghost use Rattle.dns_spec.specs.Data.{Valid};
 ghost use Rattle.dns_spec.specs.DataText.{Says};
 ghost use Rattle.dns_spec.specs.DataFaults.{DataFaultIs};
+ghost use Rattle.dns_spec.specs.AllFaults.{FaultyData};
 ghost use Rattle.dns_rdata.specs.RdataFault.{fault_code};
 
 use crate::fault::RdataFault;
 use crate::rdata::Rdata;
 use crate::rtype::RType;
 use crate::typed::{USUAL_OCTETS, put_typed};
-use crate::unknown::{is_unknown_mark, put_unknown};
+use crate::unknown::{faulty_unknown, is_unknown_mark, put_unknown};
 use crate::word::{Word, Words};
 use dns_name::Name;
 use std::alloc::Global;
@@ -24,6 +25,9 @@ pub struct DataRoom {
     octets: Vec<u8>,
     // The octets that words in the generic form spell, before they are checked against the type.
     spelled: Vec<u8>,
+    /// After words that spell no data: the number of words, from the type on, before the one at
+    /// fault, which is the type if the number of words is wrong.
+    pub faulty: usize,
 }
 
 impl DataRoom {
@@ -34,6 +38,7 @@ impl DataRoom {
             name: Name::root(),
             octets: Vec::new(alloc),
             spelled: Vec::new(alloc),
+            faulty: 0,
         }
     }
 
@@ -89,6 +94,8 @@ impl Rdata {
             → Says rtype.0 (W.to_come words) origin.now d → ⊥) }
         ensures which { IfErr result (λ fault. fault ≢ RdataFault.NoMemory
             → DataFaultIs rtype.0 (W.to_come words) origin.now (fault_code fault)) }
+        ensures faulty { IfErr result (λ fault. fault ≢ RdataFault.NoMemory
+            → FaultyData rtype.0 (W.to_come words) origin.now room.new.faulty) }
     {
         let mut octets = replace(&mut room.octets, Vec::new(room.alloc));
         octets.clear();
@@ -96,11 +103,16 @@ impl Rdata {
         if let Some((first, others)) = words.split_first() {
             if is_unknown_mark(&first) {
                 room.spelled.clear();
-                put_unknown(others, &mut room.spelled)?;
+                room.faulty = 1;
+                if let Err(fault) = put_unknown(others, &mut room.spelled) {
+                    room.faulty = faulty_unknown(others).min(words.count() - 1) + 1;
+                    return Err(fault);
+                }
                 return Rdata::lowered(rtype, room.spelled.as_slice(), octets);
             }
         }
-        put_typed(rtype, words, origin, &mut room.name, &mut octets)?;
+        let faulty = &mut room.faulty;
+        put_typed(rtype, words, origin, &mut room.name, faulty, &mut octets)?;
         Ok(Rdata { octets })
     }
 }

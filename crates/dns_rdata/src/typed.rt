@@ -3,6 +3,7 @@
 ghost use Rattle.std.specs.Prelude.{◌≡◌, ◌≢◌, ◌≤◌, ◌==◌, ◌<◌, ℕ, ◌++◌, false, [], length, slice_get, Some, OnOk, IfErr};
 ghost use Rattle.dns_spec.specs.Data.{number, string};
 ghost use Rattle.dns_spec.specs.DataFaults.{DataFaultIs, field_fault};
+ghost use Rattle.dns_spec.specs.AllFaults.{FaultyData};
 ghost use Rattle.dns_spec.specs.DataText.{SaysNumber, SaysString, SaysWord, Says, word_fields};
 ghost use Rattle.dns_rdata.specs.RdataFault.{fault_code};
 ghost use Rattle.dns_rdata.specs.TypeRows.{field_of, fields_in};
@@ -28,12 +29,14 @@ pub(crate) const USUAL_OCTETS: usize = 24;
 ///
 /// Fails with `BadHex` if the type has no mnemonic, with `WordCount` if the number of words is
 /// wrong, or else with the fault of the first invalid word from the left, or with `BadString` if
-/// the data exceeds 65,535 octets.
+/// the data exceeds 65,535 octets. `faulty` is then the number of words, from the type on, before
+/// the one at fault.
 pub(crate) fn put_typed<'w, W: Words<'w>>(
     rtype: RType,
     words: W,
     origin: &Name,
     name: &mut Name,
+    faulty: &mut usize,
     octets: &mut Vec<u8>,
 ) -> Result<(), RdataFault>
     requires none { octets.old.items ≡ [] }
@@ -41,12 +44,16 @@ pub(crate) fn put_typed<'w, W: Words<'w>>(
     ensures ok { OnOk result (Says rtype.0 (W.to_come words) origin.now octets.new.items) }
     ensures which { IfErr result (λ fault. fault ≢ RdataFault.NoMemory
         → DataFaultIs rtype.0 (W.to_come words) origin.now (fault_code fault)) }
+    ensures faulty { IfErr result (λ fault. fault ≢ RdataFault.NoMemory
+        → FaultyData rtype.0 (W.to_come words) origin.now faulty.new) }
 {
+    let count = words.count();
     let Some(row) = row_of_type(rtype) else {
+        *faulty = count.min(1);
         return Err(RdataFault::BadHex);
     };
-    let count = words.count();
     if !is_word_count(row.fields, count) {
+        *faulty = 0;
         return Err(RdataFault::WordCount);
     }
     let mut others = words;
@@ -54,6 +61,7 @@ pub(crate) fn put_typed<'w, W: Words<'w>>(
         let Some((word, after)) = others.split_first() else {
             unreachable!();
         };
+        *faulty = place + 1;
         append_word(field_at(row.fields, place), &word, origin, name, octets)?;
         if octets.len() > MAX_OCTETS {
             return Err(RdataFault::BadString);

@@ -1,7 +1,10 @@
 //! Reads data in the generic form, its length and its octets as hex digits (RFC 3597 5).
 ghost use Rattle.std.specs.Prelude.{◌≡◌, ◌≢◌, ◌≤◌, [], length, OnOk, IfOk, IfErr};
 ghost use Rattle.dns_spec.specs.Names.{Octets};
+ghost use Rattle.std.specs.List.{list_all};
+ghost use Rattle.std.specs.Char.{is_ascii_hexdigit};
 ghost use Rattle.dns_spec.specs.DataText.{SaysUnknown, is_unknown_mark};
+ghost use Rattle.dns_spec.specs.AllFaults.{FaultyUnknown, is_hex};
 ghost use Rattle.dns_rdata.specs.UnknownForm.{AppendsWord, SaysHexWord};
 
 use crate::fault::RdataFault;
@@ -53,6 +56,45 @@ pub(crate) fn put_unknown<'w, W: Words<'w>>(
         return Err(RdataFault::BadHex);
     }
     Ok(())
+}
+
+/// For words after `\#`: the number of words, from `\#` on, before the one at fault. This is the
+/// first word that is no length of at most 65,535, or not hex digits; `\#` if there is no such word.
+pub(crate) fn faulty_unknown<'w, W: Words<'w>>(words: W) -> usize
+    ensures value { FaultyUnknown (W.to_come words) result }
+    ensures bound { result ≤ length (W.to_come words) }
+{
+    let count = words.count();
+    let Some((first, others)) = words.split_first() else {
+        return 0;
+    };
+    if first.quoted || read_number(first.raw, MOST_DATA_OCTETS).is_none() {
+        return 1;
+    }
+    let mut others = others;
+    'words: for place in 1..count {
+        let Some((word, after)) = others.split_first() else {
+            unreachable!();
+        };
+        if !is_hex(&word) {
+            return place + 1;
+        }
+        others = after;
+    }
+    0
+}
+
+// Whether a word spells whole octets in hex digits.
+fn is_hex(word: &Word<'_>) -> bool
+    ensures { result ≡ is_hex word.now }
+{
+    !word.quoted && !word.raw.is_empty() && word.raw.len() % 2 == 0 && are_hex_digits(word.raw)
+}
+
+fn are_hex_digits(text: &[u8]) -> bool
+    ensures { result ≡ list_all is_ascii_hexdigit text.now }
+{
+    text.iter().all(|octet| octet.is_ascii_hexdigit())
 }
 
 // Appends the octets that a word spells in hex digits. Fails with `BadHex` if the word is quoted,

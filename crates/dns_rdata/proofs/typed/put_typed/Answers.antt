@@ -1,6 +1,6 @@
 use Rattle.dns_rdata.proofs.Common.{[], ◌≤◌, arith, eqb-true, ap, sym, ◌∙◌, length, drop, length-drop, nil_from_length, word_fields, fields_in, fault_handed_on}
-use Rattle.dns_rdata.proofs.FormFronts.{Taken, none-taken, word-next, word-taken, word-refused, too-long}
-use Rattle.dns_rdata.proofs.TypedData.{typed_said, typed_fault}
+use Rattle.dns_rdata.proofs.FormFronts.{Taken, none-taken, word-next, word-taken, word-refused, too-long, word-at, long-at, taken_is}
+use Rattle.dns_rdata.proofs.TypedData.{typed_said, typed_fault, typed_at_place}
 use Rattle.dns_rdata.proofs.typed.put_typed.Goals as goal
 
 pub returns-in_err-append_word-clause-which : goal.returns-in_err-append_word-clause-which
@@ -21,6 +21,32 @@ returns-then-len-gt-MAX_OCTETS-clause-which g c = λ _.
     typed_fault c.args.rtype.0 _ _ _ _ c.requires.not_unknown c.in-Some.ensures
     c.count-count.ensures _ (sym c.if-not-is_word_count.false ∙ c.is_word_count.ensures)
     (too-long _ _ _ _ _ _ _ _ here _ c.in_ok-append_word.ensures.ok
+    (omega (arith, c.len.ensures, c.if-len-gt-MAX_OCTETS.true)))
+
+pub returns-in_err-append_word-clause-faulty : goal.returns-in_err-append_word-clause-faulty
+returns-in_err-append_word-clause-faulty g c =
+    let fault = c.in_err-append_word in
+    let here = word-next _ _ _ _ _ _ _ _ _ (c.field_at.ensures _ c.words-test.true)
+    c.in-Some-split_first.ensures c.words.invariant.taken in
+    let many = eqb-true _ _ (sym c.is_word_count.ensures ∙ c.if-not-is_word_count.false) in
+    let index = taken_is _ _ _ c.words.place _ _ _ _ here (omega (arith, many, c.words-test.true)) in
+    fault_handed_on c.from_residual.result fault.field-0.0 _ c.from_residual.ensures.1
+    (λ other. typed_at_place c.args.rtype.0 _ _ _ _
+    c.requires.not_unknown c.in-Some.ensures c.count-count.ensures _ c.words.place
+    (sym c.if-not-is_word_count.false ∙ c.is_word_count.ensures) index
+    (word-at _ _ _ _ _ _ _ _ here (fault.ensures.fault other)))
+
+pub returns-then-len-gt-MAX_OCTETS-clause-faulty :
+    goal.returns-then-len-gt-MAX_OCTETS-clause-faulty
+returns-then-len-gt-MAX_OCTETS-clause-faulty g c = λ _.
+    let here = word-next _ _ _ _ _ _ _ _ _ (c.field_at.ensures _ c.words-test.true)
+    c.in-Some-split_first.ensures c.words.invariant.taken in
+    let many = eqb-true _ _ (sym c.is_word_count.ensures ∙ c.if-not-is_word_count.false) in
+    let index = taken_is _ _ _ c.words.place _ _ _ _ here (omega (arith, many, c.words-test.true)) in
+    typed_at_place c.args.rtype.0 _ _ _ _ c.requires.not_unknown c.in-Some.ensures
+    c.count-count.ensures _ c.words.place
+    (sym c.if-not-is_word_count.false ∙ c.is_word_count.ensures) index
+    (long-at _ _ _ _ _ _ _ _ here _ c.in_ok-append_word.ensures.ok
     (omega (arith, c.len.ensures, c.if-len-gt-MAX_OCTETS.true)))
 
 pub words-init : goal.words-init
