@@ -1,8 +1,8 @@
-#!/usr/bin/env python3
-"""Prints all faults of a zone file as `zonefaults` does, `tools/plain_faults.py ORIGIN FILE`, slowly, from the definitions.
+#!/usr/bin/python3
+"""Prints all faults of a zone file as `zonefaults` does, `tests/plain_faults.py ORIGIN FILE`, slowly, from the definitions.
 
-It is written from the prose of docs/DEFINITIONS.md (`EntryPlaces`, `AllFaults`), not from the programs, and uses only the standard
-library and the plain reader of names, data and checks in tools/hostile-zones. The status is 0 without faults, 1 with faults, and
+It is written from the prose of the definitions (`EntryPlaces`, `AllFaults`), not from the programs, and uses only the standard
+library and the plain reader of names, data and checks in tests/hostile-zones. The status is 0 without faults, 1 with faults, and
 2 if the origin or the file can't be read.
 """
 import re
@@ -237,7 +237,7 @@ def report(text, zone):
 
 def main():
     if len(sys.argv) != 3:
-        sys.exit("usage: tools/plain_faults.py ORIGIN FILE")
+        sys.exit("usage: tests/plain_faults.py ORIGIN FILE")
     zone = plain.name_of((sys.argv[1].encode(), False), ())
     if zone is None:
         print("bad origin", file=sys.stderr)
