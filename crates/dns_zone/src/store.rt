@@ -4,11 +4,7 @@ pub(crate) mod octets;
 pub(crate) mod stored;
 
 ghost use Rattle.std.specs.Prelude.{◌≡◌, ◌≢◌, ◌⊎◌, ◌-◌, ◌^◌, ◌<◌, ◌≤◌, [], ◌∷◌, ◌++◌, length, IfOk, IfErr, OnOk, OnErr};
-ghost use Rattle.dns_spec.specs.Records.{zone_of, ordered_zone};
-ghost use Rattle.dns_spec.specs.Checks.{faults};
-ghost use Rattle.dns_spec.specs.Meaning.{most_records};
 ghost use Rattle.dns_master.specs.SourceForm.{ReadsFile};
-ghost use Rattle.dns_zone.specs.ZoneForm.{ReportsFaults};
 
 use crate::store::stored::StoredRecord;
 use dns_master::{Gathers, ReadCode, ReadFault, Record, read_into};

@@ -1,11 +1,9 @@
 //! Zones without faults whose names can be walked.
 ghost use Rattle.std.specs.Prelude.{◌≡◌, ◌≤◌, [], length, IfOk, IfErr};
-ghost use Rattle.std.specs.List.{filter};
-ghost use Rattle.dns_spec.specs.Names.{folded, same};
-ghost use Rattle.dns_spec.specs.Records.{ResourceRecord, zone_of, ordered_zone, first_serial, zone_serial};
+ghost use Rattle.dns_spec.specs.Names.{folded};
+ghost use Rattle.dns_spec.specs.Records.{zone_of, ordered_zone, zone_serial};
 ghost use Rattle.dns_spec.specs.Checks.{faults};
 ghost use Rattle.dns_spec.specs.Meaning.{most_records};
-ghost use Rattle.dns_spec.specs.ZonePrinted.{is_soa};
 ghost use Rattle.dns_zone.specs.ZoneForm.{IsBuilt, ReportsFaults};
 
 use crate::checked::CheckedZone;

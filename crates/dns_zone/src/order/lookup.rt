@@ -1,5 +1,5 @@
 //! Records of a name, found by binary search among records in canonical order.
-ghost use Rattle.std.specs.Prelude.{◌≡◌, ◌≤◌, ◌==◌, length, drop, not, nat_lt};
+ghost use Rattle.std.specs.Prelude.{◌≡◌, ◌<◌, ◌≤◌, ◌==◌, false, get_or, length, drop, not, nat_lt};
 ghost use Rattle.std.specs.List.{list_any, filter, prefix_len};
 ghost use Rattle.std.specs.List.Sorted.{IsPartitionedBy, IsNonDecreasingBy};
 ghost use Rattle.dns_spec.specs.Names.{folded, same, at_or_below};
@@ -33,7 +33,26 @@ pub(crate) fn count_under(records: &[StoredRecord], name: &NameRef<'_>) -> usize
     if !is_under(first, name) {
         return 0;
     }
-    records.partition_point(|entry| is_under(entry, name))
+    let front = records.split_at(upto_other(records, name)).0;
+    front.partition_point(|entry| is_under(entry, name))
+}
+
+// The index of a record whose owner is not at or below the name, or the number of records. If few
+// records are at or below the name, this is found in few steps.
+fn upto_other(records: &[StoredRecord], name: &NameRef<'_>) -> usize
+    requires { folded name.now ≡ name.now }
+    ensures bound { result ≤ length records.now }
+    ensures other { (d : ResourceRecord) → result < length records.now
+        → at_or_below (get_or records.now result d).owner name.now ≡ false }
+{
+    let mut most = 1;
+    'doubled: while most < records.len() {
+        if !is_under(&records[most], name) {
+            return most;
+        }
+        most = most.saturating_mul(2);
+    }
+    records.len()
 }
 
 /// The number of records at the front whose owner is the name, counted one by one.
