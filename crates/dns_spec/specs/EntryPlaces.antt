@@ -118,11 +118,16 @@ pub record PlacedEntry : Type 0 where
 abbrev pub word_place : PlacedToken → Option Place
 word_place p = if is_some (word_of p.token) then Some p.place else None
 
--- the number of octets before the last of the tokens if that is a line end, else `ends`
-abbrev pub before_line_end : ℕ → List PlacedToken → ℕ
-before_line_end ends [] = ends
-before_line_end ends (p ∷ []) = if is_line_end p.token then p.place.begins else ends
-before_line_end ends (p ∷ q ∷ ps) = before_line_end ends (q ∷ ps)
+-- the number of octets before the last of these tokens
+abbrev pub before_last : List PlacedToken → ℕ
+before_last [] = 0
+before_last (p ∷ []) = p.place.begins
+before_last (p ∷ q ∷ ps) = before_last (q ∷ ps)
+
+-- the number of octets before the end of an entry: before its line end, or up to where it stops
+abbrev pub before_end : ℕ → List PlacedToken → Ending → ℕ
+before_end total ps (after_line rest) = before_last ps
+before_end total ps ending = total - length (end_octets ending)
 
 -- the entry that begins a text, as it was read
 abbrev pub placed_entry : ℕ → Octets → Octets → List PlacedToken × Ending → PlacedEntry
@@ -135,7 +140,7 @@ placed_entry total past text read =
           };
       begins = total - length text;
       words = filter_map word_place read.0;
-      ends = before_line_end (total - length (end_octets read.1)) read.0;
+      ends = before_end total read.0 read.1;
       stop = λ fault. fault_place total past fault (end_octets read.1);
     }
 
