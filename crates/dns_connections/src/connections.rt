@@ -7,6 +7,7 @@ ghost use Rattle.slab.specs.Slab.{slab_len};
 use crate::peer::{Next, PIECE, Peer, Served};
 use crate::sockets::{Found, Sockets, Stopped};
 use dns_answer::TcpDraft;
+use dns_serve::StreamFault;
 use dns_zone::Zone;
 use slab::Slab;
 use std::alloc::{AllocError, Global};
@@ -372,9 +373,9 @@ impl<'z, Z: Served, K: Sockets> Connections<'z, Z, K> {
         let Some(peer) = self.peers.get(key) else {
             return;
         };
-        let fault = peer.lateness();
+        let (deadline, fault) = self.deadline(peer);
         let is_over = self.ends.is_some_and(|ends| now >= ends);
-        if !is_over && now < self.deadline(peer, fault.is_none()) {
+        if !is_over && now < deadline {
             return;
         }
         self.close(key);
@@ -383,20 +384,20 @@ impl<'z, Z: Served, K: Sockets> Connections<'z, Z, K> {
         }
     }
 
-    // When a connection is closed if it makes no progress. It is idle if no message is incomplete
-    // and no reply unsent.
-    fn deadline(&self, peer: &Peer<Z, K::Stream>, is_idle: bool) -> Duration {
-        let limit = match self.plan.places {
-            Places::One if is_idle && peer.since == peer.accepted => FIRST,
-            Places::One if is_idle => SILENCE,
-            Places::Many if is_idle && self.ends.is_some() => SILENCE,
-            _ => LIMIT,
-        };
-        let deadline = after(peer.since, limit);
-        match self.plan.places {
-            Places::One if is_idle => deadline.min(after(peer.accepted, LIMIT)),
-            Places::One => deadline.min(after(peer.accepted, 2 * LIMIT)),
-            Places::Many => deadline,
+    // When a connection is closed if it makes no progress, and what is then reported.
+    fn deadline(&self, peer: &Peer<Z, K::Stream>) -> (Duration, Option<StreamFault>) {
+        let fault = peer.lateness();
+        // From then on no message may begin if others wait.
+        let end = after(peer.accepted, LIMIT);
+        match (self.plan.places, fault) {
+            (Places::Many, None) if self.ends.is_some() => (after(peer.since, SILENCE), None),
+            (Places::Many, _) => (after(peer.since, LIMIT), fault),
+            (Places::One, None) if peer.since == peer.accepted => {
+                (after(peer.since, FIRST), Some(StreamFault::SourceFailed))
+            }
+            (Places::One, None) => (after(peer.since, SILENCE).min(end), None),
+            (Places::One, Some(StreamFault::SourceFailed)) if peer.since >= end => (end, None),
+            (Places::One, _) => (after(peer.since, LIMIT).min(after(end, LIMIT)), fault),
         }
     }
 }

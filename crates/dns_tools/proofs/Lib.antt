@@ -2,7 +2,6 @@ pub mod Common
 mod LineParts
 mod LastArguments
 mod ClapOptions
-mod ServedTurns
 mod CheckedZone
 mod PrintedLines
 pub mod LineDigits

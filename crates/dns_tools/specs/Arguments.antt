@@ -1,5 +1,5 @@
 -- When the arguments of a command line are accepted or refused.
-use Rattle.std.specs.Prelude.{⊤, ◌≡◌, ◌≢◌, ◌⊎◌, Bool, true, false, List, [], ◌∷◌, codes}
+use Rattle.std.specs.Prelude.{◌≡◌, ◌⊎◌, Bool, true, false, List, [], ◌∷◌, codes}
 use Rattle.dns_spec.specs.Names.{Octets, DomainName, folded}
 use Rattle.dns_spec.specs.NameText.{SpellsName}
 use Rattle.dns_spec.specs.CommandWords.{ZoneWords, AskToCheck, Transport, udp, tcp, ServiceAsked, by_lines, by_turns, service_words, HasTurns, AskToServe, SocketAsked, AskAtSocket}
@@ -72,25 +72,14 @@ service_of (Once limit) = by_lines (transport_of limit)
 service_of (Udp address turns) = by_turns udp address.now turns
 service_of (Tcp address turns) = by_turns tcp address.now turns
 
--- ADDR is not `--`, which ends the options of other programs
-abbrev pub HasAddress : ServiceAsked → Type 0
-HasAddress (by_lines transport) = ⊤
-HasAddress (by_turns transport address turns) = address ≢ codes "--"
-
--- the arguments before ORIGIN and FILE ask for this service; its ADDR is not `--`
+-- the arguments before ORIGIN and FILE ask for this service
 pub record IsService (front : List Octets) (a : ServiceAsked) : Type 0 where
   pub words : front ≡ service_words a
   pub turns : HasTurns a
-  pub address : HasAddress a
-
--- the arguments ask the server for this service and this zone; the service's ADDR is not `--`
-pub record AskForService (words : List Octets) (a : ServiceAsked) (z : ZoneWords) : Type 0 where
-  pub asked : AskToServe words a z
-  pub address : HasAddress a
 
 abbrev pub IsServeCall : List Octets → ServeWords → Type 0
 IsServeCall words call =
-    IsCall (AskForService words (service_of call.service)) call.origin call.file.now
+    IsCall (AskToServe words (service_of call.service)) call.origin call.file.now
 
 -- what the parsed arguments ask the server of a given socket for, and that the arguments do so
 abbrev pub socket_asked : SocketWords → SocketAsked

@@ -1,7 +1,9 @@
 -- What contracts state about a bound UDP socket.
 use Rattle.std.specs.Prelude.{ℕ, Bool}
 
--- the number of failed calls, and whether there is a sender to reply to
+-- The number of failed calls; whether there is a sender to reply to; and whether the server was asked
+-- to end.
 pub record SocketState : Type 0 where
   pub failures : ℕ
   pub has_sender : Bool
+  pub over : Bool

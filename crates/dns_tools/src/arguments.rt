@@ -3,11 +3,11 @@ ghost use Rattle.std.specs.Prelude.{◌≡◌, ◌≢◌, ◌⊎◌, ℕ, ◌≤
 ghost use Rattle.std.specs.Bool.{OnTrue, OnFalse};
 ghost use Rattle.dns_spec.specs.Names.{Octets};
 ghost use Rattle.dns_spec.specs.Report.{Options};
-ghost use Rattle.dns_spec.specs.CommandWords.{is_dashed, ZoneWords, EndWords, AreOptions, AskToCheck, AskAtSocket, ServiceAsked, by_turns, Transport, transport_word};
+ghost use Rattle.dns_spec.specs.CommandWords.{is_dashed, ZoneWords, EndWords, AreOptions, AskToCheck, AskToServe, AskAtSocket, ServiceAsked, by_turns, Transport, transport_word};
 ghost use Rattle.clap.specs.Walk.{rule_of};
 ghost use Rattle.clap.specs.Simple.{app_of};
 ghost use Rattle.dns_tools.specs.Checked.{options_of};
-ghost use Rattle.dns_tools.specs.Arguments.{is_word_fault, IsRefusal, service_of, transport_of, limit_words, IsOrigin, IsNoOrigin, IsService, AskForService, IsCheckCall, IsServeCall, IsSocketCall, HasBadOrigin, AskNothing};
+ghost use Rattle.dns_tools.specs.Arguments.{is_word_fault, IsRefusal, service_of, transport_of, limit_words, IsOrigin, IsNoOrigin, IsService, IsCheckCall, IsServeCall, IsSocketCall, HasBadOrigin, AskNothing};
 ghost use Rattle.dns_tools.specs.ClapCommands.{option_rule, bare_app, once_app, check_app};
 
 use crate::check::Flags;
@@ -34,9 +34,6 @@ const UDP: &str = "udp";
 const TCP: &str = "tcp";
 
 const TCP_OPTION: &str = "--tcp";
-
-// ADDR may not be this, because it ends the options of other programs.
-const END_OF_OPTIONS: &str = "--";
 
 // The most turns that a server takes.
 const MOST_TURNS: u32 = 1_000_000;
@@ -100,7 +97,7 @@ pub struct SocketWords<'a> {
 
 /// Parses the arguments after the program's own name: `once [--tcp] ORIGIN FILE`, or
 /// `udp|tcp ADDR TURNS ORIGIN FILE`. ORIGIN is a name relative to the root, and TURNS a number from
-/// 1 to 1,000,000. ADDR is not parsed yet, but it is not `--`.
+/// 1 to 1,000,000. ADDR is not parsed yet.
 ///
 /// Fails with `usage` if the arguments are not of this form, or ORIGIN or FILE begins with `-`;
 /// else with `bad origin` if ORIGIN is not a name; and with `no memory` if allocation fails. There
@@ -108,9 +105,9 @@ pub struct SocketWords<'a> {
 pub fn serve_words<'a, S: AsStr>(alloc: Global, words: &'a [S]) -> Result<ServeWords<'a>, FaultWord>
     ensures asked { IfOk result (IsServeCall (map S.text words.entry.now)) }
     ensures origin { result ≡ Err FaultWord.BadOrigin
-        → HasBadOrigin (AskForService (map S.text words.entry.now)) }
+        → HasBadOrigin (AskToServe (map S.text words.entry.now)) }
     ensures usage { result ≡ Err FaultWord.Usage
-        → AskNothing (AskForService (map S.text words.entry.now)) }
+        → AskNothing (AskToServe (map S.text words.entry.now)) }
     ensures fault { IfErr result (λ fault. IsTrue (is_word_fault fault)) }
 {
     let Some((front, origin, file)) = zone_words(words) else {
@@ -239,9 +236,6 @@ fn said_service<'a, S: AsStr>(front: &'a [S]) -> Option<Service<'a>>
         return None;
     };
     let (address, turns) = (address.as_str(), said_turns(turns.as_str())?);
-    if address == END_OF_OPTIONS {
-        return None;
-    }
     match said_transport(transport.as_str())? {
         Limit::Udp => Some(Service::Udp { address, turns }),
         Limit::Tcp => Some(Service::Tcp { address, turns }),

@@ -4,7 +4,7 @@
 
 mod arguments;
 mod check;
-mod connections;
+mod epoll;
 mod fault;
 mod line;
 mod listen;
@@ -13,25 +13,24 @@ mod message;
 mod nonblocking;
 mod once;
 mod parts;
-mod peer;
 mod report;
 mod socket;
 mod startup;
+mod watch;
 
 pub use arguments::{
     CheckWords, ServeWords, Service, SocketWords, check_words, serve_words, socket_words,
 };
 pub use check::{Flags, check_zone};
-pub use connections::{Connections, Listener};
+pub use epoll::{Connection, Epoll};
 pub use fault::{
     FAULT_STATUS, FaultWord, Outcome, Stop, TurnWord, end_of, exit_status, status_of_turns,
 };
-pub use listen::{
-    given_listener, given_socket, listener_at, serve_connections, serve_datagrams, socket_at,
-};
+pub use listen::{Ending, given_listener, given_socket, listener_at, serve_datagrams, socket_at};
 pub use load::{LoadFault, Refusal, load_zone, write_refusal};
 pub use message::run_message;
 pub use nonblocking::Nonblocking;
 pub use once::{LineRoom, run_once, run_once_in};
 pub use socket::Socket;
 pub use startup::{end, finish, given_words, open_file, refuse, say, say_serving};
+pub use watch::Watch;

@@ -156,7 +156,7 @@ pub fn say(rt: &impl Eprint, word: FaultWord) -> u8
     FAULT_STATUS
 }
 
-fn word_or_no_memory(error: &Error, word: FaultWord) -> FaultWord
+pub(crate) fn word_or_no_memory(error: &Error, word: FaultWord) -> FaultWord
     ensures { (result ≡ word) ⊎ (result ≡ FaultWord.NoMemory) }
 {
     if error.kind() == ErrorKind::OutOfMemory {

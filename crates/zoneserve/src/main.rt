@@ -4,11 +4,11 @@
 //! datagrams or connections at the address ADDR.
 #![tactic(auto)]
 
+use dns_connections::{Places, serve_connections};
 use dns_name::Tally;
-use dns_serve::StreamRoom;
 use dns_tools::{
-    FaultWord, LoadFault, Nonblocking, Service, end, end_of, given_words, listener_at, load_zone,
-    open_file, refuse, run_once, serve_connections, serve_datagrams, serve_words, socket_at,
+    Epoll, FaultWord, LoadFault, Nonblocking, Service, end, end_of, given_words, listener_at,
+    load_zone, open_file, refuse, run_once, serve_datagrams, serve_words, socket_at,
     status_of_turns,
 };
 use dns_zone::Zone;
@@ -17,6 +17,9 @@ use std::net::{Net, TcpListener, TcpStream};
 use std::process::ExitCode;
 use std::rt::{Env, Files};
 use std::time::Clock;
+
+// The most messages that are answered on one connection.
+const MOST_MESSAGES: u64 = 1_000_000;
 
 fn main(rt: HostRuntime) -> ExitCode {
     ExitCode::from(end(&rt, run(&rt, &rt.stderr())))
@@ -58,13 +61,16 @@ where
             serve_datagrams(rt, zone, &mut socket, *turns)
         }
         Service::Tcp { address, turns } => {
-            // All sessions use the same buffers, which are allocated before the first session, and
-            // not on the stack.
-            let Ok(mut room) = Box::new(rt.alloc(), StreamRoom::new()) else {
-                return Err(FaultWord::NoMemory);
-            };
-            let mut listener = listener_at(rt, address)?;
-            serve_connections(rt, zone, &mut listener, *turns, &mut room)
+            let sockets = Epoll::new(rt, listener_at(rt, address)?, None)?;
+            serve_connections(
+                rt.alloc(),
+                zone,
+                sockets,
+                *turns,
+                MOST_MESSAGES,
+                Places::One,
+            )?
+            .finish()
         }
     };
     Ok(status_of_turns(are_said))

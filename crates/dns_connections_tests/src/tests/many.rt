@@ -102,7 +102,8 @@ fn check_closed<A: Abort>(
         assert!(rt; replies.starts_with(&closed.sent));
         if closed.is_over {
             assert!(rt; closed.sent == replies && after.starts_with(ABSENT));
-            queries = queries.saturating_add((closed.received.len() - after.len()) / FRAME);
+            let asked = closed.received.len().saturating_sub(after.len()) / FRAME;
+            queries = queries.saturating_add(asked);
             over = over.saturating_add(1);
         }
     }

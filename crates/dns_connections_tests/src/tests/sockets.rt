@@ -1,4 +1,6 @@
 //! Sockets in memory, which know what each connection received and sent.
+ghost use Rattle.std.specs.Prelude.{◌≡◌};
+
 use dns_connections::{Found, Sockets, Stopped, Stream};
 use dns_serve::StreamFault;
 use dns_zone::Zone;
@@ -31,7 +33,11 @@ pub(super) struct Talk {
 
 impl Talk {
     // Whether the next call succeeds.
-    fn call(&mut self) -> Result<(), Stopped> {
+    fn call(&mut self) -> Result<(), Stopped>
+        ensures received { self.new.received ≡ self.old.received }
+        ensures sent { self.new.sent ≡ self.old.sent }
+        ensures over { self.new.is_over ≡ self.old.is_over }
+    {
         self.blocks = !self.blocks;
         if self.blocks {
             return Err(Stopped::WouldBlock);

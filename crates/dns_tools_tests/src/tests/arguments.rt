@@ -50,7 +50,6 @@ zoneserve,tcp,127.0.0.1:53,-1,example,zone
 zoneserve,udp,127.0.0.1:53,1,-example,zone
 zoneserve,udp,127.0.0.1:53,1,example,-
 zoneserve,udp,--tcp,127.0.0.1:53,1,example,zone
-zoneserve,udp,--,1,example,zone
 zonecheck,--quiet
 zonecheck,--version
 zonecheck,--quiet,example
@@ -128,6 +127,13 @@ const SERVICES: &[(&str, Service<'static>)] = &[
         "tcp,-a,7,example,zone",
         Service::Tcp {
             address: "-a",
+            turns: 7,
+        },
+    ),
+    (
+        "udp,--,7,example,zone",
+        Service::Udp {
+            address: "--",
             turns: 7,
         },
     ),

@@ -1,15 +1,6 @@
 use Rattle.dns_tools.proofs.Common.{rules, sym, ◌∙◌}
-use Rattle.std.proofs.lemmas.Slice.Eq.{bytes_eq-Decides}
 use Rattle.dns_tools.proofs.LastArguments.{three_texts, service_parts}
 use Rattle.dns_tools.proofs.arguments.said_service.Goals as goal
-
-pub returns-then-eq-clause-none : goal.returns-then-eq-clause-none
-returns-then-eq-clause-none g c e t address n asked =
-    let texts = three_texts g.S.AsStr.text c.args.front.now _ _ _ c.in-len3.len_at_least
-    c.in-len3.len_below c.transport-item.is c.address-item.is c.turns-item.is in
-    let parts = service_parts _ _ _ t address n (sym texts ∙ asked.words) in
-    asked.address (sym parts.1 ∙ sym c.as_str-address.ensures
-    ∙ (bytes_eq-Decides _ _).0 (sym c.eq.ensures ∙ c.if-eq.true))
 
 pub returns-in_err-said_transport-clause-none : goal.returns-in_err-said_transport-clause-none
 returns-in_err-said_transport-clause-none g c e t address n asked =
