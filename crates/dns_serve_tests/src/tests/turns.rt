@@ -28,7 +28,7 @@ fn are_octets(datagrams: &[Vec<u8>], wanted: &[&[u8]]) -> bool {
         && datagrams
             .iter()
             .zip(wanted)
-            .all(|(datagram, wanted)| datagram == wanted)
+            .all(|(datagram, wanted)| datagram.as_slice() == *wanted)
 }
 
 /// Room that is used for one turn after another.
