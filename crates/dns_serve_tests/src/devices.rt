@@ -1,4 +1,4 @@
-ghost use Rattle.std.specs.Prelude.{◌≡◌, ◌++◌, ◌∷◌, [], true, map};
+ghost use Rattle.std.specs.Prelude.{◌≡◌, ◌≤◌, ◌++◌, ◌∷◌, [], true, map, take};
 ghost use Rattle.std.specs.Bool.{OnTrue, OnFalse};
 
 use dns_serve::{Datagrams, Failed};
@@ -61,6 +61,17 @@ fn keep(alloc: Global, octets: &[u8], list: &mut Vec<Vec<u8>>) -> bool
     list.push(copy).is_ok()
 }
 
+// Copies the first 512 octets of a datagram to the front of `buf`, and returns how many.
+fn hand(datagram: &[u8], buf: &mut [u8; 512]) -> usize
+    ensures handed { take result buf.new ≡ take 512 datagram.now }
+    ensures within { result ≤ 512 }
+{
+    let (piece, _) = datagram.split_at(512_usize.min(datagram.len()));
+    let (front, _) = buf.split_at_mut(piece.len());
+    front.copy_from_slice(piece);
+    piece.len()
+}
+
 impl Datagrams for Mailbox<'_> {
     ghost use Rattle.std.specs.Prelude.{Some};
 
@@ -77,9 +88,7 @@ impl Datagrams for Mailbox<'_> {
             self.failures += 1;
             return Err(Failed);
         }
-        let count = self.datagram.len().min(512);
-        buf[..count].copy_from_slice(&self.datagram[..count]);
-        Ok(count)
+        Ok(hand(self.datagram, buf))
     }
 
     fn send(&mut self, reply: &[u8]) -> Result<(), Failed> {

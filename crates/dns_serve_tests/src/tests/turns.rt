@@ -28,7 +28,7 @@ fn are_octets(datagrams: &[Vec<u8>], wanted: &[&[u8]]) -> bool {
         && datagrams
             .iter()
             .zip(wanted)
-            .all(|(datagram, wanted)| datagram == wanted)
+            .all(|(datagram, wanted)| datagram.as_slice() == *wanted)
 }
 
 /// Room that is used for one turn after another.
@@ -49,18 +49,13 @@ fn is_answered(
     let Ok(datagram) = datagram.concat(alloc) else {
         return false;
     };
+    let (received, replies) = ([message(&datagram)], [message(reply)]);
+    let (sent, _) = replies.split_at(usize::from(reply != EMPTY));
     let mut mailbox = Mailbox::new(alloc, message(&datagram), 9);
     let turn = udp_turn_in(zone, &mut mailbox, &mut room.octets, &mut room.draft);
     (turn == Ok(reply != EMPTY))
-        & are_octets(&mailbox.datagrams, &[message(&datagram)])
-        & are_octets(
-            &mailbox.replies,
-            if reply == EMPTY {
-                &[]
-            } else {
-                &[message(reply)]
-            },
-        )
+        & are_octets(&mailbox.datagrams, &received)
+        & are_octets(&mailbox.replies, sent)
         & (mailbox.failures() == 0)
 }
 

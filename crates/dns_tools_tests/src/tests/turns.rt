@@ -115,7 +115,11 @@ where
         && device.mailbox.replies.len() == replies
         && device.mailbox.calls == calls
         && device.failures() == u64::from(fails_at < 9)
-        && device.mailbox.replies.iter().all(|reply| reply == REPLY)
+        && device
+            .mailbox
+            .replies
+            .iter()
+            .all(|reply| reply.as_slice() == REPLY)
 }
 
 // Whether a server that is asked to end at its second datagram takes no third turn, and says nothing.
