@@ -46,7 +46,7 @@ where
 /// `bind` if the given descriptor is not a UDP socket with an address and a port, or if it is
 /// connected.
 ///
-/// No flag of the socket is changed, because other processes may share it.
+/// The socket gets a time limit for receiving, also for other processes that share it.
 pub fn given_socket<'a, I: AsFd, C: Clock>(
     given: &I,
     clock: &'a C,
