@@ -17,7 +17,7 @@ from array import array
 from pathlib import Path
 
 import bind
-from master import LARGEST, LINES, Names, Reader, Record, Refused, address, escaped, name, read, refuse, split, twice, unique, within
+from master import LINES, Names, Reader, Record, Refused, address, escaped, name, read, refuse, split, twice, unique, within
 from mending import FORMS, Mending
 from reports import Report, plain
 
