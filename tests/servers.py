@@ -24,6 +24,25 @@ def query(name, rtype="A", number=0x1234):
     return asked.to_wire()
 
 
+def questions():
+    """The rows of tests/data/questions: the name and type, the line of status and flags, and the records, sorted."""
+    text = (TOP / "tests" / "data" / "questions").read_text()
+    blocks = [[line for line in block.split("\n") if line and not line.startswith("#")] for block in text.split("\n\n")]
+    return [(block[0], block[1], sorted(map(str.lower, block[2:]))) for block in blocks if block]
+
+
+def records_of(reply):
+    """The records of a message of dnspython in the form of that table."""
+    lines = [f"{section} {line}" for section, sets in zip(("answer", "authority", "additional"), reply.sections[1:])
+             for one in sets for line in one.to_text().split("\n")]
+    return sorted(line.replace(" IN ", " ", 1).lower() for line in lines)
+
+
+def run(*words, **how):
+    """Runs a program, and returns its status and what it prints."""
+    return subprocess.run([str(word) for word in words], **{"capture_output": True, "text": True, "timeout": 900, **how})
+
+
 def serial_of(reply, place):
     """The serial in a reply whose first record is an SOA at this place, with a pointer as its owner. Four numbers follow it."""
     end = place + 12 + int.from_bytes(reply[place + 10:place + 12], "big")

@@ -100,8 +100,8 @@ def said_by(text):
 
 
 @pytest.mark.parametrize("client, words", [
-    pytest.param("dig", ["+norec", "+noedns", "+nocookie", "+ignore"], marks=pytest.mark.needs("dig")),
-    pytest.param("kdig", ["+norec", "+noedns", "+ignore"], marks=pytest.mark.needs("kdig"))])
+    pytest.param("dig", ["+norec", "+noedns", "+nocookie", "+ignore"], marks=pytest.mark.peers("dig")),
+    pytest.param("kdig", ["+norec", "+noedns", "+ignore"], marks=pytest.mark.peers("kdig"))])
 @pytest.mark.parametrize("transport", ["udp", "tcp"])
 def test_a_client(programs, client, words, transport):
     with Serving(programs, transport):
@@ -111,7 +111,7 @@ def test_a_client(programs, client, words, transport):
             assert said_by(run.stdout) == (first, records), " ".join(asked)
 
 
-@pytest.mark.needs("dig")
+@pytest.mark.peers("dig")
 def test_questions_of_dig(programs):
     """Several questions on one connection are one turn; a query with EDNS gets FORMERR, and dig says how to ask without."""
     words = ["+norec", "+noedns", "+tcp", "+keepopen", "+short"]
@@ -168,7 +168,7 @@ def stopped(process):
         time.sleep(0.2)
 
 
-@pytest.mark.parametrize("interrupts", [stopped, pytest.param(traced, marks=pytest.mark.needs("strace"))])
+@pytest.mark.parametrize("interrupts", [stopped, pytest.param(traced, marks=pytest.mark.peers("strace"))])
 def test_interrupted_calls(programs, interrupts):
     """The server goes on after a call in which it waits is interrupted: for a datagram, for octets, for room to send."""
     with Serving(programs, "udp") as server:
@@ -193,7 +193,7 @@ def test_interrupted_calls(programs, interrupts):
         assert got == sent // len(framed(QUESTION)) * size
 
 
-@pytest.mark.needs("dnsperf")
+@pytest.mark.peers("dnsperf")
 def test_dnsperf_loses_nothing(programs, tmp_path):
     asked = tmp_path / "asked"
     asked.write_text("".join(f"{question[0]} {question[1]}\n" for question, _, _ in questions()))
@@ -258,7 +258,7 @@ def dig(port, *words):
 
 
 @pytest.mark.slow
-@pytest.mark.parametrize("name", [pytest.param(name, marks=pytest.mark.needs(name, "dig")) for name in RESOLVERS])
+@pytest.mark.parametrize("name", [pytest.param(name, marks=pytest.mark.peers(name, "dig")) for name in RESOLVERS])
 def test_a_resolver(programs, tmp_path, name):
     """A resolver asks again over TCP, and keeps its connection open: others are served at once meanwhile."""
     zone = tmp_path / "zone"
@@ -275,7 +275,7 @@ def test_a_resolver(programs, tmp_path, name):
 
 @pytest.mark.slow
 @pytest.mark.root
-@pytest.mark.needs("unbound", "dig")
+@pytest.mark.peers("unbound", "dig")
 def test_a_delegation(programs, tmp_path):
     below = TOP / "tests" / "data" / "below.zone"
     with Serving(programs, "udp"), Serving(programs, "udp", below, "sub.example", (BELOW, 53)), \
@@ -300,7 +300,7 @@ def test_zoneserve_serves_connections_one_after_another(programs):
     assert set(server.said.split()) <= {"S1"}
 
 
-@pytest.mark.needs("systemd-analyze")
+@pytest.mark.peers("systemd-analyze")
 def test_units(tmp_path):
     """systemd-analyze finds no fault in the units, and gives the service a low exposure."""
     units = []

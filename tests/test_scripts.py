@@ -8,23 +8,8 @@ ALL = ["zonecheck", "zoneserve", "dnsmsg", "zonesocket"]
 slow, root = pytest.mark.slow, pytest.mark.root
 # Each script, its arguments, in which names of programs are replaced by their paths, and its markers.
 SCRIPTS = [
-    ("docs-check", ALL, ()),
-    ("examples", ["zonecheck"], ()),
-    ("remedies", ["zonecheck"], ()),
-    ("test-lint", ["zonecheck"], ()),
-    ("test-import", ["zonecheck"], ()),
     ("test-deploy", ["zonecheck"], ()),
-    ("test-compare", ALL, ()),
-    ("messages", ["dnsmsg"], ()),
-    ("test-generated", ["zonecheck"], [slow]),
     ("faults", [*ALL, "refused"], [slow]),
-    ("misuse", ["zonecheck", "zoneserve", "zonesocket"], [slow]),
-    ("must-not-compile", [], [slow]),
-    ("caught", [], [slow]),
-    ("hostile", ["zonecheck", "zoneserve", "1000000"], [slow]),
-    ("hostile-zones", ["zonecheck", "100000"], [slow]),
-    ("hostile-zones", ["zonecheck", "sweep"], [slow]),
-    ("elsewhere", ["zonecheck"], [slow]),
     ("test-behind", ALL, [slow, root]),
     ("test-anycast", ALL, [slow, root]),
     ("test-hidden", ALL, [slow, root]),

@@ -1,37 +1,38 @@
-#!/usr/bin/python3 -I
-"""Tests bin/zonecompare with the built programs, `tests/test-compare PROGRAM..`.
-
-A small server here answers by RFC 1034 4.3.2 from a zone that dnspython reads, without zoneserve or zonecompare. Each row
-changes some of its replies. zonecompare has to report the named kind of difference, for as many replies as were changed; and
-nothing if the RFCs allow the change. The other tests are of bad servers, arguments and files, and of what zonecompare prints.
-"""
+"""bin/zonecompare with a small server here, which answers by RFC 1034 4.3.2 from a zone that dnspython reads, without zoneserve or
+zonecompare, and whose replies each row of WRONG or ALLOWED changes; with zoneserve; and with other servers, if they are installed."""
 import concurrent.futures
 import contextlib
 import json
 import os
 import pty
+import re
 import resource
 import signal
 import socket
 import subprocess
 import sys
-import tempfile
 import threading
 import time
 import types
-from pathlib import Path
 
+import dns.exception
 import dns.flags
 import dns.message
 import dns.name
+import dns.query
 import dns.rcode
 import dns.rdataclass
 import dns.rdatatype
 import dns.rrset
 import dns.zone
+import pytest
+import servers
+from servers import TOP, until
 
-TOP = Path(__file__).resolve().parents[1]
-COMPARE = str(TOP / "bin" / "zonecompare")
+sys.path.insert(0, str(TOP / "bench"))
+import rivals  # noqa: E402
+
+COMPARE = TOP / "bin" / "zonecompare"
 AA, TC, RA = dns.flags.AA, dns.flags.TC, dns.flags.RA
 ZONE = """$TTL 300
 @ SOA ns host 5 7200 900 1209600 60
@@ -451,225 +452,326 @@ ALLOWED = [
 
 
 def compare(server, *words, text=ZONE, rate="0"):
-    """Runs zonecompare for a zone in standard input, and returns the run."""
-    return subprocess.run([COMPARE, "--rate", rate, *words, "example", "-", server.address], input=text.encode(),
-                          capture_output=True, timeout=120, check=False)
+    """Runs zonecompare for a zone in standard input."""
+    words = [COMPARE, "--rate", rate, *words, "example", "-", server.address]
+    return subprocess.run(words, input=text, capture_output=True, text=True, timeout=120)
 
 
-def row(title, wrong, wanted, *options):
-    """The fault of a row, or None."""
-    server = Small(ZONE, wrong)
-    done = compare(server, "--format", "json", *options)
-    found = {one["kind"]: one for one in json.loads(done.stdout or "{}").get("differences", ())}
-    if wanted and not server.changed:
-        return f"{title}: no reply was changed"
-    if done.stderr or done.returncode != bool(wanted) or set(found) != set(wanted):
-        return f"{title}: status {done.returncode}, {sorted(found.items())}, and not {sorted(wanted)}; {done.stderr.decode()}"
+def found_by(done):
+    return {one["kind"]: one for one in json.loads(done.stdout or "{}").get("differences", ())}
+
+
+@pytest.fixture(scope="module")
+def ran(programs):
+    """For each row, its server and the run of zonecompare. Three rows are run at once."""
+    def begin(title, wrong, *more):
+        server = Small(ZONE, wrong)
+        options = [option for option in more if isinstance(option, str)]
+        return server, compare(server, "--format", "json", *options)
+    with concurrent.futures.ThreadPoolExecutor(3) as pool:
+        yield {row[0]: pool.submit(begin, *row) for row in [*WRONG, *ALLOWED]}
+        pool.shutdown(cancel_futures=True)
+
+
+@pytest.mark.parametrize("title, wanted", [(row[0], row[2]) for row in WRONG])
+def test_a_wrong_reply(ran, title, wanted):
+    """The named kinds of difference are reported, for as many replies as were changed."""
+    server, done = ran[title].result()
+    found = found_by(done)
+    assert server.changed and (done.returncode, done.stderr, set(found)) == (1, "", set(wanted))
     for kind, one in found.items():
-        if wanted[kind] not in (None, one["rfc"]) or one["replies"] != len(server.changed):
-            return f"{title}: {one}, and not {wanted[kind]}; {sorted(server.changed)} were changed"
-    return None
+        assert one["replies"] == len(server.changed) and wanted[kind] in (None, one["rfc"]), (one, server.changed)
 
 
-def refused(faults):
-    """Bad calls and files: status 2, a message, no traceback, and no question."""
+@pytest.mark.parametrize("title", [row[0] for row in ALLOWED])
+def test_a_reply_that_the_rfcs_allow(ran, title):
+    done = ran[title].result()[1]
+    assert (done.returncode, done.stderr, found_by(done)) == (0, "", {})
+
+
+@pytest.mark.parametrize("words, wanted", [
+    ("example nowhere SERVER", "No such file"), ("example . SERVER", "Is a directory"), ("a..b good SERVER", "bad origin"),
+    ("example good", "give a SERVER"), ("example good 127.0.0.1:0", "127.0.0.1:0: "),
+    ("example good 127.0.0.1:65536", "127.0.0.1:65536: "), ("example good [::1]:x", "[::1]:x: "),
+    ("example good \033[2J:x", "\\027[2J:x: "), ("example good EMPTY", ": "), ("--questions 0 example good SERVER", "at least 1"),
+    ("--rate -1 example good SERVER", "at least 0"), ("--rate nan example good SERVER", "at least 0"),
+    ("--format xml example good SERVER", "xml"), ("example good SERVER --time", "--time"), ("example faulty SERVER", ": R13: ")])
+def test_bad_calls_and_files(programs, tmp_path, monkeypatch, words, wanted):
+    """Status 2, a message, no traceback, and no question. The faults of a file are those that zonelint prints."""
+    monkeypatch.chdir(tmp_path)
     server = Small(ZONE)
-    with tempfile.TemporaryDirectory() as folder:
-        faulty, good = Path(folder, "faulty.zone"), Path(folder, "good.zone")
-        faulty.write_text(ZONE + "x A 192.0.2.256\n@ MX 10 nothere\nalias A 192.0.2.1\n")
-        good.write_text(ZONE)
-        lint = subprocess.run([str(TOP / "bin" / "zonelint"), "example", faulty], capture_output=True, text=True, check=False)
-        for words, wanted in (
-                (["example", faulty, server.address], lint.stdout.partition(f"{faulty}:21: W")[0]),
-                (["example", folder + "/none", server.address], "No such file"),
-                (["example", folder, server.address], "Is a directory"),
-                (["a..b", good, server.address], "bad origin"),
-                (["example", good], "give a SERVER"),
-                (["example", good, "127.0.0.1:0"], "127.0.0.1:0: "),
-                (["example", good, "127.0.0.1:65536"], "127.0.0.1:65536: "),
-                (["example", good, "[::1]:x"], "[::1]:x: "),
-                (["example", good, "\033[2J:x"], "\\027[2J:x: "),
-                (["example", good, ""], ": "),
-                (["--questions", "0", "example", good, server.address], "at least 1"),
-                (["--rate", "-1", "example", good, server.address], "at least 0"),
-                (["--rate", "nan", "example", good, server.address], "at least 0"),
-                (["--format", "xml", "example", good, server.address], "xml"),
-                (["example", good, server.address, "--time"], "--time")):
-            done = subprocess.run([COMPARE, *words], capture_output=True, text=True, timeout=60, check=False)
-            if done.returncode != 2 or done.stdout or wanted not in done.stderr or "Traceback" in done.stderr or server.asked:
-                faults.append(f"{words}: {done}, and not {wanted!r}; {server.asked}")
+    (tmp_path / "good").write_text(ZONE)
+    (tmp_path / "faulty").write_text(ZONE + "x A 192.0.2.256\n@ MX 10 nothere\nalias A 192.0.2.1\n")
+    words = [word.replace("SERVER", server.address).replace("EMPTY", "") for word in words.split(" ")]
+    done = servers.run(COMPARE, *words)
+    assert (done.returncode, done.stdout) == (2, "") and wanted in done.stderr
+    assert "Traceback" not in done.stderr and not server.asked
+    if "faulty" in words:
+        assert re.split(r"faulty:\d+: W", servers.run("zonelint", "example", "faulty").stdout)[0] in done.stderr
 
 
-def bad_servers(faults):
-    """Servers that don't serve the zone, or another one: what is said of each, the status, and how often each was asked."""
-    above = "$TTL 9\n@ SOA ns h 5 1 1 1 1\n@ NS ns\nns A 192.0.2.1\nexample NS ns.example\nns.example A 192.0.2.1\n"
-    lame = ": lame: it does not serve the zone: 1 reply "
-    for title, server, status, wanted, questions in (
-            ("silent", Small(ZONE, lambda *_: b""), 2, ": no reply over UDP: silence\n", 2),
-            ("garbage", Small(ZONE, lambda *_: b"garbage"), 2, ": no reply over UDP: a reply that can't be read\n", 2),
-            ("another port", Small(ZONE, lambda reply, *_: Elsewhere(reply.to_wire())), 2, "from another address or port\n", 2),
-            ("refuses", Small(ZONE, when(lambda *_: True, code("REFUSED"))), 1, lame, 1),
-            ("serves another zone", Small(ZONE, origin="example.net."), 1, lame, 1),
-            ("serves the zone above", Small(above, origin="."), 1, lame, 1),
-            ("an older zone", Small(ZONE.replace(" 5 ", " 4 ").replace("A 192", "A 198")), 1, ": an older zone: 1 reply ", 1),
-            ("a newer zone", Small(ZONE.replace(" 5 ", " 6 ")), 1, ": a newer zone: 1 reply ", 1),
-            ("older, around 0", Small(ZONE.replace(" 5 ", " 4294967295 ")), 1, ": an older zone: 1 reply ", 1)):
-        done = compare(server)
-        if done.returncode != status or wanted not in done.stdout.decode() or len(server.asked) != questions or done.stderr:
-            faults.append(f"{title}: {done}, and not {status}, {wanted!r}; {server.asked}")
+ABOVE = "$TTL 9\n@ SOA ns h 5 1 1 1 1\n@ NS ns\nns A 192.0.2.1\nexample NS ns.example\nns.example A 192.0.2.1\n"
+LAME = ": lame: it does not serve the zone: 1 reply "
+
+
+@pytest.mark.parametrize("server, status, wanted, questions", [
+    (lambda: Small(ZONE, lambda *_: b""), 2, ": no reply over UDP: silence\n", 2),
+    (lambda: Small(ZONE, lambda *_: b"garbage"), 2, ": no reply over UDP: a reply that can't be read\n", 2),
+    (lambda: Small(ZONE, lambda reply, *_: Elsewhere(reply.to_wire())), 2, "from another address or port\n", 2),
+    (lambda: Small(ZONE, when(lambda *_: True, code("REFUSED"))), 1, LAME, 1),
+    (lambda: Small(ZONE, origin="example.net."), 1, LAME, 1),
+    (lambda: Small(ABOVE, origin="."), 1, LAME, 1),
+    (lambda: Small(ZONE.replace(" 5 ", " 4 ").replace("A 192", "A 198")), 1, ": an older zone: 1 reply ", 1),
+    (lambda: Small(ZONE.replace(" 5 ", " 6 ")), 1, ": a newer zone: 1 reply ", 1),
+    (lambda: Small(ZONE.replace(" 5 ", " 4294967295 ")), 1, ": an older zone: 1 reply ", 1)],
+    ids=["silent", "garbage", "another port", "refuses", "another zone", "the zone above", "older", "newer", "older, around 0"])
+def test_servers_without_the_zone(programs, server, status, wanted, questions):
+    server = server()
+    done = compare(server)
+    assert (done.returncode, done.stderr, len(server.asked)) == (status, "", questions) and wanted in done.stdout
+
+
+def test_servers_that_do_not_reply(programs):
+    """If the server ends after its first reply, it is asked until 20 questions in a row have no reply."""
     with socket.socket() as closed:
         closed.bind(("127.0.0.1", 0))
         done = compare(types.SimpleNamespace(address=f"127.0.0.1:{closed.getsockname()[1]}"), "--tcp")
-    if done.returncode != 2 or ": no reply over TCP: no connection\n" not in done.stdout.decode() or done.stderr:
-        faults.append(f"no TCP: {done}")
-    # The server ends after its first reply: it is asked until 20 questions in a row have no reply.
+    assert (done.returncode, done.stderr) == (2, "") and ": no reply over TCP: no connection\n" in done.stdout
     server = Small(ZONE, lambda reply, name, rtype, tcp: None if (name, rtype) == ("example.", "SOA") else b"")
     done = compare(server)
-    if done.returncode != 1 or " not asked\n" not in done.stdout.decode() or len(set(server.asked)) > 54:
-        faults.append(f"no replies but one: {done}, {len(set(server.asked))}")
+    assert done.returncode == 1 and " not asked\n" in done.stdout and len(set(server.asked)) <= 54
 
 
-def prints(faults):
-    """What is printed: each server, a block for each kind of difference with a dig command, and the last line."""
-    bad, good = Small(ZONE, at("www.example. A", then=put("answer", WWW[0]))), Small(ZONE)
-    old = Small(ZONE.replace(" 5 ", " 4 "))
+def test_what_is_printed(programs):
+    """Each server, a block for each kind of difference with a dig command, and the last line."""
+    bad, good, old = Small(ZONE, at("www.example. A", then=put("answer", WWW[0]))), Small(ZONE), Small(ZONE.replace(" 5 ", " 4 "))
     done = compare(good, "--server", bad.address, "--server", old.address, "--server", good.address)
-    lines = done.stdout.decode().split("\n")
-    asked = len(good.asked) - 1
-    wanted = [f"{good.address}: serial 5", f"{bad.address}: serial 5", f"{old.address}: serial 4"]
-    blocks = [[f"{bad.address}: {ANSWER.format('lacks')}: 1 reply ({SETS})",
-               f"    dig @127.0.0.1 -p {bad.port} +norec -q www.example. -t A",
-               "    expected: www.example. 300 IN A 192.0.2.11", "    got: nothing"],
-              [f"{old.address}: an older zone: 1 reply (RFC 1034 4.3.5)",
-               f"    dig @127.0.0.1 -p {old.port} +norec -q example. -t SOA", "    expected: serial 5", "    got: serial 4"]]
-    rest = [line for block in blocks for line in block]
-    if done.returncode != 1 or done.stderr or sorted(lines[:3]) != sorted(wanted) or sorted(lines[3:11]) != sorted(rest) or \
-            lines[11:] != [f"{asked} questions to 3 servers: 2 differ, {asked - 1} not asked", ""]:
-        faults.append(f"prints: {done.stdout.decode()}, and not {wanted + rest}")
-    # Names and data that are not printable are escaped.
-    bad = Small(ZONE, when(lambda _, name, rtype: "odd" in name and rtype == "TXT" and "zz" not in name, put("answer")))
-    done = compare(bad)
-    said = done.stdout.decode()
-    record = r'odd\007\032name.example. 300 IN TXT "\027[2J"'
-    if not said.replace("\n", "").isprintable() or f"    expected: {record}\n" not in said:
-        faults.append(f"escapes: {said!r}")
-    for target in ("/dev/full", "closed"):
-        with open("/dev/full", "w", encoding="ascii") as full:
-            reader, writer = os.pipe()
-            os.close(reader)
-            done = subprocess.run([COMPARE, "--rate", "0", "example", "-", good.address], input=ZONE.encode(), check=False,
-                                  stdout=full if target == "/dev/full" else writer, stderr=subprocess.PIPE)
-            os.close(writer)
-        if done.returncode != 2 or b"Traceback" in done.stderr or (target == "closed" and done.stderr):
-            faults.append(f"output {target}: {done}")
+    lines, asked = done.stdout.split("\n"), len(good.asked) - 1
+    assert (done.returncode, done.stderr) == (1, "")
+    assert sorted(lines[:3]) == sorted([f"{good.address}: serial 5", f"{bad.address}: serial 5", f"{old.address}: serial 4"])
+    assert sorted(lines[3:11]) == sorted([
+        f"{bad.address}: {ANSWER.format('lacks')}: 1 reply ({SETS})", f"    dig @127.0.0.1 -p {bad.port} +norec -q www.example. -t A",
+        "    expected: www.example. 300 IN A 192.0.2.11", "    got: nothing",
+        f"{old.address}: an older zone: 1 reply (RFC 1034 4.3.5)", f"    dig @127.0.0.1 -p {old.port} +norec -q example. -t SOA",
+        "    expected: serial 5", "    got: serial 4"])
+    assert lines[11:] == [f"{asked} questions to 3 servers: 2 differ, {asked - 1} not asked", ""]
 
 
-def asks(faults):
-    """Which servers are asked and how: addresses and names, without EDNS, and for a zone in BIND's form."""
+def test_names_and_data_that_are_not_printable_are_escaped(programs):
+    said = compare(Small(ZONE, when(lambda _, name, rtype: "odd" in name and rtype == "TXT" and "zz" not in name,
+                                    put("answer")))).stdout
+    assert said.replace("\n", "").isprintable()
+    assert r'    expected: odd\007\032name.example. 300 IN TXT "\027[2J"' + "\n" in said
+
+
+@pytest.mark.parametrize("is_closed", [False, True])
+def test_an_output_that_is_full_or_closed(programs, is_closed):
+    reader, writer = os.pipe()
+    os.close(reader)
+    with os.fdopen(writer) if is_closed else open("/dev/full", "w") as output:
+        done = subprocess.run([COMPARE, "--rate", "0", "example", "-", Small(ZONE).address], input=ZONE, text=True,
+                              stdout=output, stderr=subprocess.PIPE)
+    assert done.returncode == 2 and "Traceback" not in done.stderr and not (is_closed and done.stderr)
+
+
+def test_addresses_and_names_of_servers(programs):
     for host in ("::1", "127.0.0.1"):
         server = Small(ZONE, host=host)
         done = compare(server)
-        if done.returncode != 0 or f"{server.address}: serial 5" not in done.stdout.decode():
-            faults.append(f"{host}: {done}")
-    server = Small(ZONE)
+        assert done.returncode == 0 and f"{server.address}: serial 5" in done.stdout
     server.address = f"localhost:{server.port}"
-    done = compare(server)
-    if f"localhost:{server.port} (127.0.0.1): serial 5" not in done.stdout.decode():
-        faults.append(f"localhost: {done}")
-    server = Small(ZONE, edns=False)
-    done = compare(server)
-    if done.returncode != 0 or ": serial 5, without EDNS" not in done.stdout.decode():
-        faults.append(f"no EDNS: {done}")
+    assert f"localhost:{server.port} (127.0.0.1): serial 5" in compare(server).stdout
+
+
+def test_forms_of_zones(programs):
+    """A server without EDNS, a long chain of aliases and a long name, and a zone in BIND's form. dnspython does not read a TTL
+    after the class."""
+    done = compare(Small(ZONE, edns=False))
+    assert done.returncode == 0 and ": serial 5, without EDNS" in done.stdout
     server = Small(LONG)
     done = compare(server, text=LONG)
-    if done.returncode or f"\n{len(server.asked) - 1} questions to 1 server: 0 differ\n" not in done.stdout.decode():
-        faults.append(f"a long chain of aliases, a long name: {done}, {len(server.asked)}")
-    # dnspython doesn't read a TTL after the class.
+    assert done.returncode == 0 and f"\n{len(server.asked) - 1} questions to 1 server: 0 differ\n" in done.stdout
     bind = TOP / "examples" / "bind.zone"
     server = Small(bind.read_text().replace("IN 5m", "5m IN"), origin="example.com.")
-    done = subprocess.run([COMPARE, "--rate", "0", "--bind", "example.com", bind, server.address], capture_output=True,
-                          check=False)
-    if done.returncode or done.stderr:
-        faults.append(f"--bind: {done}")
+    done = servers.run(COMPARE, "--rate", "0", "--bind", "example.com", bind, server.address)
+    assert (done.returncode, done.stderr) == (0, "")
 
 
-def paces(faults):
-    """Which questions are in a sample, how fast they are sent, and how many at once."""
+def test_samples(programs):
     samples = []
     for seed in ("1", "1", "2"):
         server = Small(ZONE)
-        said = compare(server, "--questions", "18", "--seed", seed).stdout.decode()
+        said = compare(server, "--questions", "18", "--seed", seed).stdout
         samples.append(sorted(server.asked[1:]))
-        if len(set(server.asked[1:])) != 18 or "18 questions of " not in said or f"--seed {seed}," not in said:
-            faults.append(f"sample: {said}, {server.asked}")
-    if samples[0] != samples[1] or samples[0] == samples[2] or ("EXAMPLE.", "SOA") not in samples[0]:
-        faults.append(f"samples: {samples}")
+        assert len(set(samples[-1])) == 18 and "18 questions of " in said and f"--seed {seed}," in said
+    assert samples[0] == samples[1] != samples[2] and ("EXAMPLE.", "SOA") in samples[0]
+
+
+def test_how_fast_and_how_many_at_once(programs):
     server, begun = Small(ZONE), time.monotonic()
     compare(server, "--questions", "41", rate="20")
-    if not 2 <= time.monotonic() - begun or len(server.asked) != 42:
-        faults.append(f"rate: {time.monotonic() - begun} s for {len(server.asked)} questions")
+    assert time.monotonic() - begun >= 2 and len(server.asked) == 42
     server = Small(ZONE, pause=0.3)
     compare(server)
-    if not 16 <= server.most <= 32:
-        faults.append(f"at once: {server.most}")
+    assert 16 <= server.most <= 32
 
 
-def stops(faults):
-    """An interrupt: what was found so far is printed. Progress is printed only on a terminal."""
+def test_an_interrupt(programs):
+    """What was found so far is printed."""
     server = Small(ZONE, capped)
-    with subprocess.Popen([COMPARE, "--rate", "20", "example", "-", server.address], stdin=subprocess.PIPE,
-                          stdout=subprocess.PIPE, stderr=subprocess.PIPE) as run:
+    words = [COMPARE, "--rate", "20", "example", "-", server.address]
+    with subprocess.Popen(words, stdin=subprocess.PIPE, stdout=subprocess.PIPE, stderr=subprocess.PIPE) as run:
         run.stdin.write(ZONE.encode())
         run.stdin.close()
-        while len(server.asked) < 12:
-            time.sleep(0.05)
+        assert until(lambda: len(server.asked) >= 12, 30)
         run.send_signal(signal.SIGINT)
-        said, bad = run.stdout.read().decode(), run.stderr.read()
-    if run.returncode != 130 or bad or "lower TTLs" not in said or " not asked\n" not in said:
-        faults.append(f"interrupt: {run.returncode}, {said}, {bad}")
-    server = Small(ZONE)
-    main_end, end = pty.openpty()
-    words = [COMPARE, "--rate", "0", "example", "-", server.address]
-    with subprocess.Popen(words, stdin=subprocess.PIPE, stdout=end, stderr=end) as run:
+        said, bad = run.stdout.read(), run.stderr.read()
+    assert (run.returncode, bad) == (130, b"") and b"lower TTLs" in said and b" not asked\n" in said
+
+
+def test_progress_is_printed_on_a_terminal(programs):
+    ours, theirs = pty.openpty()
+    with subprocess.Popen([COMPARE, "--rate", "0", "example", "-", Small(ZONE).address], stdin=subprocess.PIPE, stdout=theirs,
+                          stderr=theirs) as run:
         run.communicate(ZONE.encode())
-    os.close(end)
-    said = os.read(main_end, 65536).decode()
-    if "50 replies\r" not in said or " questions to 1 server: 0 differ" not in said:
-        faults.append(f"progress: {said!r}")
+    os.close(theirs)
+    said = os.read(ours, 65536).decode()
+    assert "50 replies\r" in said and " questions to 1 server: 0 differ" in said
 
 
-def serves(faults, zoneserve):
-    """zoneserve itself, which --exact must not tell from the proved reply; and the time of 2,000 questions."""
-    text = ZONE + "".join(f"h{at} A 192.0.2.{at}\nh{at} MX 5 h{at}\n*.d{at} TXT a\ne.f{at} CNAME h{at}\n" for at in range(200))
-    with tempfile.NamedTemporaryFile("w") as zone, contextlib.ExitStack() as stack:
-        zone.write(text)
-        zone.flush()
-        address = Small(ZONE).address.replace("127.0.0.1", "127.0.0.2")
+def test_zoneserve(programs, tmp_path):
+    """--exact can't tell zoneserve from the proved reply; and 2,000 questions take at most 10 seconds of the processor."""
+    zone, address = tmp_path / "zone", Small(ZONE).address.replace("127.0.0.1", "127.0.0.2")
+    zone.write_text(ZONE + "".join(f"h{at} A 192.0.2.{at}\nh{at} MX 5 h{at}\n*.d{at} TXT a\ne.f{at} CNAME h{at}\n" for at in range(200)))
+    with contextlib.ExitStack() as stack:
         for transport in ("udp", "tcp"):
-            run = subprocess.Popen([zoneserve, transport, address, "1000000", "example", zone.name], stderr=subprocess.DEVNULL)
-            stack.callback(run.kill)
+            words = [programs / "zoneserve", transport, address, "1000000", "example", zone]
+            stack.callback(subprocess.Popen(words, stderr=subprocess.DEVNULL).kill)
         time.sleep(0.5)
         for options, least in (((), 2000), (("--tcp",), 200), (("--exact",), 200)):
             before = resource.getrusage(resource.RUSAGE_CHILDREN)
-            done = subprocess.run([COMPARE, "--rate", "0", "--questions", str(least), *options, "example", zone.name, address],
-                                  capture_output=True, text=True, check=False)
+            done = servers.run(COMPARE, "--rate", "0", "--questions", str(least), *options, "example", zone, address)
             after = resource.getrusage(resource.RUSAGE_CHILDREN)
-            used = sum(getattr(after, what) - getattr(before, what) for what in ("ru_utime", "ru_stime"))
-            if done.returncode or done.stderr or f"{least} questions of " not in done.stdout or used > 10:
-                faults.append(f"zoneserve {options}: {done}, {used} s")
+            assert (done.returncode, done.stderr) == (0, "") and f"{least} questions of " in done.stdout
+            assert after.ru_utime + after.ru_stime - before.ru_utime - before.ru_stime < 10
 
 
-def main():
-    zoneserve = next(os.path.realpath(program) for program in sys.argv[1:] if Path(program).name == "zoneserve")
-    faults = []
-    with concurrent.futures.ThreadPoolExecutor(3) as rows:
-        done = [rows.submit(row, *one) for one in WRONG] + [rows.submit(row, *one[:2], {}, *one[2:]) for one in ALLOWED]
-        done += [rows.submit(test, faults) for test in (refused, bad_servers, prints, asks, paces, stops)]
-        faults += [repr(one.exception() or one.result()) for one in done if one.exception() or one.result()]
-    serves(faults, zoneserve)
-    print(*faults, sep="\n", end="\n" * bool(faults))
-    print(f"{len(WRONG)} wrong replies, {len(ALLOWED)} right ones, 7 other tests, {len(faults)} faults")
-    sys.exit(1 if faults else 0)
+# ---- other servers
+
+OTHER = ("127.0.0.1", 5399)
+# These may reply otherwise than zoneserve to ANY (RFC 8482) and to a type that is not for data, and BIND does so to a loop of
+# aliases.
+OTHERWISE = {"example. ANY", "www.example. TYPE250", "loop.example. A"}
+ROWS = [pytest.param(row, id=row[0], marks=[pytest.mark.slow, pytest.mark.peers(row[1])])
+        for row in [*rivals.SERVERS, rivals.POWERDNS_SERVER]]
 
 
-main()
+def asked_of_other(name, rtype):
+    """The status and the records of the reply of the server that runs now, as `servers.records_of` has them."""
+    reply = dns.query.udp(dns.message.make_query(name, rtype, flags=0), OTHER[0], 10, OTHER[1])
+    return dns.rcode.to_text(reply.rcode()), servers.records_of(reply)
+
+
+@contextlib.contextmanager
+def running(row, folder, file, origin="example"):
+    """Runs another server until the end of the body, which begins when it answers for the zone."""
+    def has_soa():
+        with contextlib.suppress(dns.exception.Timeout, OSError):
+            query = dns.message.make_query(origin, "SOA", flags=0)
+            return dns.query.udp(query, OTHER[0], 1, OTHER[1]).answer
+
+    with rivals.serving(row, OTHER, folder, file, 1, origin):
+        until(has_soa, 20)
+        yield
+
+
+def canonical(folder, origin, file):
+    text = subprocess.run([TOP / "bin" / "zoneimport", origin, file], capture_output=True, check=True).stdout
+    text = subprocess.run(["zonecheck", "--print", origin, "/dev/stdin"], input=text, capture_output=True, check=True).stdout
+    (folder / "served").write_bytes(text)
+    return folder / "served"
+
+
+@pytest.mark.parametrize("row", ROWS[:3])
+def test_others_read_the_canonical_text(programs, tmp_path, row):
+    """From the canonical text of a zone a server gives the same replies as from the zone file, and those that zoneserve gives."""
+    zone, replies = TOP / "tests" / "data" / "served.zone", []
+    for file in canonical(tmp_path, "example", zone), zone:
+        with running(row, tmp_path, file):
+            replies.append({question: asked_of_other(*question.split()) for question, _, _ in servers.questions()})
+    assert replies[0] == replies[1]
+    for question, first, records in servers.questions():
+        wanted = first.split()[0], [record for record in records if record.startswith("answer ")]
+        status, got = replies[0][question]
+        is_same = (status, [record for record in got if record.startswith("answer ")]) == wanted
+        assert is_same or question in OTHERWISE, (question, status, got)
+
+
+# The sample zones: the origin, the file, and whether it is in BIND's form. BIND loads such a file itself.
+ZONES = [
+    ("example.com", "examples/company.zone", False), ("example", "examples/example.zone", False),
+    ("example.com", "examples/wildcard.zone", False), ("example.com", "examples/delegation.zone", False),
+    ("example.com", "examples/caa-tlsa.zone", False), ("2.0.192.in-addr.arpa", "examples/reverse-ipv4.zone", False),
+    ("8.b.d.0.1.0.0.2.ip6.arpa", "examples/reverse-ipv6.zone", False), ("example.com", "examples/bind.zone", True),
+    ("example", "tests/data/served.zone", False), ("sub.example", "tests/data/below.zone", False),
+    ("example.com", "tests/data/example.com.zone", True), ("land-5.com", "tests/data/land-5.com.zone", True),
+    ("example", "hard.zone", False)]
+
+
+def hard():
+    """A zone of hard cases: long and circular aliases, wildcards of each kind, large sets, glue that is large or not required,
+    names of unusual octets, and types without a name."""
+    chain = [f"c{at} CNAME c{at + 1}" for at in range(1, 20)] + ["c20 A 192.0.2.20"]
+    aliases = ["r1 CNAME r2", "r2 CNAME r1", "self CNAME self", "away CNAME www.other.", "gone CNAME nowhere",
+               "deep CNAME h.cut", "covered CNAME q.w", "*.cn CNAME ns", "*.loop CNAME a.loop"]
+    wildcards = ['*.w TXT "any"', "*.w A 192.0.2.77", "*.w MX 10 ns", 'a.b.w TXT "x"', '*.e.f.g TXT "y"', "x.*.star A 192.0.2.3"]
+    cuts = [f"big.cut A 198.51.100.{at}" for at in range(1, 65)] + [
+        "cut NS big.cut", "cut NS ns.sib", "cut NS ns.other.", "sib NS ns.sib", "ns.sib A 192.0.2.9", "ns.sib AAAA 2001:db8::9",
+        "far NS ns.other."]
+    sets = [f"big A 198.51.100.{at}" for at in range(1, 65)] + [
+        "m MX 10 big", "m MX 20 x.w", "m MX 30 mx.other.", "_s._tcp SRV 1 2 53 ns", "_s._tcp SRV 0 0 0 .", 'h HINFO "a" ""',
+        "p PTR ns", f'udp TXT "{"a" * 255}" "{"a" * 216}"', "more TXT " + f'"{"a" * 255}" ' * 60, 'empty TXT ""', "null MX 0 .",
+        "low 60 A 192.0.2.60"]
+    names = [r'a\.b TXT "dot"', r"sp\032ace A 192.0.2.5", r'x\007y TXT "\000\255"', "UPPER A 192.0.2.6",
+             "a." * 100 + "long A 192.0.2.99", r"u TYPE65280 \# 3 abcdef"]
+    return "\n".join(["$TTL 3600", "@ SOA ns host 1 7200 900 1209600 300", "@ NS ns", "@ NS ns.other.", "ns A 192.0.2.1",
+                      "ns AAAA 2001:db8::1", *chain, *aliases, *wildcards, *cuts, *sets, *names, ""])
+
+
+GLUE_LACKS, ANSWER_LACKS, AUTHORITY_LACKS = (kind.format("lacks") for kind in (ADDITIONAL, ANSWER, AUTHORITY))
+MANY = "over UDP it omits 64 addresses of required glue without TC, which RFC 9471 3.1 forbids since 2023"
+NO_TTL = "it gives the SOA the TTL 0 in a negative reply to a question for SOA (zero-no-soa-ttl)"
+BY_NUMBER = "it does not serve a zone in which a type that it knows, such as CAA, is written by number"
+LOWER, NOT_SERVED = "lower TTLs: the server caps them, or has a cache", "lame: it does not serve the zone"
+FAILS = r"it follows 10 aliases, and 6 names need 11 to 16; it fails at the name x\007y, and for the CNAME of a wildcard in a loop"
+# The differences that may be found: the server, the file and the kind; in how many replies at most; and why. Of the 19 aliases in
+# a row, those from c4 on lead to the address by 16 aliases or fewer, which zoneserve follows. Each is asked for 9 types at most.
+LISTED = {
+    ("nsd", "hard.zone", GLUE_LACKS): (12, MANY),
+    ("named", "hard.zone", GLUE_LACKS): (12, MANY),
+    ("knotd", "hard.zone", ANSWER_LACKS): (99, "it follows 5 aliases; 11 names need 6 to 16"),
+    ("knotd", "hard.zone", AUTHORITY_LACKS): (88, "the same, for types that the last name lacks"),
+    ("named", "hard.zone", "SERVFAIL and not NOERROR"): (45, "it follows 11 aliases; 5 names need 12 to 16"),
+    ("named", "hard.zone", LOWER): (1, NO_TTL),
+    ("named", "served.zone", LOWER): (1, NO_TTL),
+    ("pdns", "caa-tlsa.zone", NOT_SERVED): (1, BY_NUMBER),
+    ("pdns", "bind.zone", NOT_SERVED): (1, BY_NUMBER),
+    ("pdns", "hard.zone", "SERVFAIL and not NOERROR"): (66, FAILS),
+    ("pdns", "hard.zone", "SERVFAIL and not NXDOMAIN"): (2, r"it fails below the name x\007y"),
+    ("pdns", "hard.zone", "the authority section has more records"): (2, "it adds the SOA to a wildcard's CNAME"),
+}
+
+
+@pytest.mark.parametrize("options", ["--all-types", "--no-edns"])
+@pytest.mark.parametrize("origin, name, bind", ZONES, ids=[name for _, name, _ in ZONES])
+@pytest.mark.parametrize("row", ROWS)
+def test_others_differ_only_as_listed(programs, tmp_path, row, origin, name, bind, options):
+    file = tmp_path / name if name == "hard.zone" else TOP / name
+    (tmp_path / "hard.zone").write_text(hard())
+    served = file if bind and row[0] == "named" else canonical(tmp_path, origin, file)
+    words = [options, *["--bind"] * bind, origin, file, f"{OTHER[0]}:{OTHER[1]}"]
+    with running(row, tmp_path, served, origin):
+        done = servers.run(COMPARE, "--rate", "0", "--format", "json", *words)
+    assert done.returncode in (0, 1), done.stderr
+    for kind, one in found_by(done).items():
+        assert one["replies"] <= LISTED.get((row[0], file.name, kind), (0, ""))[0], kind

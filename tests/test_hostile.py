@@ -1,0 +1,416 @@
+"""Randomly changed datagrams, zone files and messages, by fixed seeds: what zoneserve, zonecheck and dnsmsg print is compared with
+what plain programs say. The reader of zone files is plain_faults.py; the server is here."""
+import itertools
+import os
+import random
+import re
+import subprocess
+import time
+from concurrent.futures import ThreadPoolExecutor
+from functools import lru_cache
+
+import dns.message
+import dns.name
+import dns.zone
+import plain_faults as plain
+import pytest
+from servers import TOP
+
+ZONE = TOP / "tests" / "data" / "served.zone"
+ORIGIN = (b"example",)
+slow = pytest.mark.slow
+# For each type that has names in its data: the number of octets before the names, the number of names, and whether the names may
+# be compressed (RFC 1035 4.1.4, RFC 2782).
+NAMES = {2: (0, 1, True), 5: (0, 1, True), 6: (0, 2, True), 12: (0, 1, True), 15: (2, 1, True), 33: (6, 1, False)}
+# For each type whose targets get additional records: the offset of the target in the data.
+TARGETS = {2: 0, 15: 2, 33: 6}
+SECTIONS = "answer", "authority", "additional"
+
+
+# ---- a plain server: for each question it looks at all records, as RFC 1034 4.3.2 describes
+
+def records_of_zone():
+    """The records of the zone, each with its owner, type, TTL and data. Names are in lower case."""
+    zone = dns.zone.from_file(str(ZONE), "example.", relativize=False)
+    return [(folded(name.labels[:-1]), int(data.rdtype), ttl, data.to_digestable()) for name, ttl, data in zone.iterate_rdatas()]
+
+
+def folded(name):
+    return tuple(label.lower() for label in name)
+
+
+def is_below(name, other):
+    """Whether a name is equal to another or below it, ignoring the case of letters."""
+    return plain.is_below(folded(name), folded(other))
+
+
+def target(kind, data):
+    """The target of an NS, CNAME, MX or SRV record with this data."""
+    return plain.name_at(data, TARGETS.get(kind, 0))[0]
+
+
+class Server:
+    def __init__(self, records):
+        self.records = records
+
+    @lru_cache(maxsize=None)
+    def at(self, name):
+        return [record for record in self.records if record[0] == name]
+
+    def set_at(self, name, kind, owner=None):
+        found = sorted((record for record in self.at(folded(name)) if record[1] == kind), key=lambda record: record[3])
+        return [(owner or record[0], *record[1:]) for record in found]
+
+    @lru_cache(maxsize=None)
+    def exists(self, name):
+        return any(is_below(record[0], name) for record in self.records)
+
+    def cut(self, name):
+        """The zone cut at or above the name; if there are several, the one nearest to the origin; None if there is none."""
+        lower = folded(name)
+        above = (lower[len(lower) - labels:] for labels in range(len(ORIGIN) + 1, len(name) + 1))
+        return next((one for one in above if is_below(one, ORIGIN) and self.set_at(one, 2)), None)
+
+    def source(self, name):
+        """The name whose records answer for a name: the name itself, the wildcard below its closest encloser, or None."""
+        lower = folded(name)
+        if self.exists(lower):
+            return lower
+        encloser = next((lower[at:] for at in range(1, len(lower) + 1) if self.exists(lower[at:])), None)
+        star = (b"*", *encloser) if encloser is not None else None
+        return star if star and self.exists(star) else None
+
+    def alias(self, name):
+        source = None if self.cut(name) else self.source(name)
+        return self.set_at(source, 5, name) if source is not None else []
+
+    def sought(self, name, kind):
+        """The name of the question, and the names to which aliases lead from it, in order. At most 16 aliases are followed."""
+        names = [name]
+        while kind not in (5, 255) and len(names) < 17:
+            alias = self.alias(names[-1])
+            led = target(5, alias[0][3]) if alias else None
+            if not alias or not is_below(led, ORIGIN) or any(folded(led) == folded(other) for other in names):
+                break
+            names.append(led)
+        return names
+
+    def outcome(self, name, kind):
+        """The RCODE, the zone cut if the reply is a referral, the answer sets, and the authority sets."""
+        names = self.sought(name, kind)
+        aliases = [] if kind in (5, 255) else [("answer", alias) for alias in map(self.alias, names) if alias]
+        last = names[-1]
+        cut, source = self.cut(last), self.source(last)
+        if cut:
+            return 0, cut, aliases, [("authority", self.set_at(cut, 2))]
+        soa = [("authority", [(*record[:2], min(record[2], int.from_bytes(record[3][-4:], "big")), record[3])
+                              for record in self.set_at(ORIGIN, 6)])]
+        if source is None:
+            return 3, None, aliases, soa
+        if kind not in (5, 255) and self.set_at(source, 5):
+            return 0, None, aliases, []
+        asked = min((record[1] for record in self.at(source)), default=0) if kind == 255 else kind
+        records = self.set_at(source, asked, last)
+        return 0, None, aliases + ([("answer", records)] if records else []), [] if records else soa
+
+    def sets(self, name, kind):
+        """All sets of a reply in order, the number of leading sets without which it is truncated, its RCODE, and whether it is
+        authoritative."""
+        rcode, cut, answers, authorities = self.outcome(name, kind)
+        found = answers + authorities
+        asked = [target(*record[1::2]) for _, records in answers for record in records if record[1] in TARGETS]
+        below = [target(*record[1::2]) for _, records in authorities for record in records if record[1] in TARGETS]
+        inside = [name for name in below if cut and is_below(name, cut)]
+        required = len(found + self.extra(found, inside))
+        outside = [name for name in below if cut and not is_below(name, cut)]
+        return found + self.extra(found, asked + inside + outside), required, rcode, not (cut and not answers)
+
+    def extra(self, earlier, names):
+        """The address sets of these names for the additional section, except sets that are in the reply already."""
+        more = []
+        for name, kind in itertools.product(names, (1, 28)):
+            present = (record for _, records in earlier + more for record in records)
+            is_present = any(record[0] and folded(record[0]) == folded(name) and record[1] == kind for record in present)
+            records = [] if is_present else self.set_at(name, kind)
+            more += [("additional", records)] if records else []
+        return more
+
+
+# ---- a reply in octets: to compress a name, it searches all names written before
+
+def put_name(out, names, name):
+    """Writes a name. Its longest suffix that an earlier name has, at an offset that a pointer can give, is written as a
+    pointer."""
+    place, written = len(out), b""
+    for at in range(len(name)):
+        suffix = name[at:]
+        found = next(((other, start) for other, start in names if plain.is_below(other, suffix)), None)
+        shared = found[1] + len(plain.wire(found[0])) - len(plain.wire(suffix)) if found else None
+        if shared is not None and shared <= 16383:
+            written += (0xC000 + shared).to_bytes(2, "big")
+            break
+        written += bytes([len(name[at])]) + name[at]
+    else:
+        written += b"\0"
+    names.append((name, place))
+    out += written
+
+
+def put_record(out, names, record):
+    owner, kind, ttl, data = record
+    put_name(out, names, owner)
+    out += kind.to_bytes(2, "big") + b"\0\1" + ttl.to_bytes(4, "big") + b"\0\0"
+    begun, at = len(out), 0
+    before, count, is_shared = NAMES.get(kind, (0, 0, False))
+    if is_shared:
+        out += data[:before]
+        at = before
+        for _ in range(count):
+            name, at = plain.name_at(data, at)
+            put_name(out, names, name)
+    out += data[at:]
+    out[begun - 2:begun] = (len(out) - begun).to_bytes(2, "big")
+
+
+def message(head, flags, question, sets):
+    counts = [1 if question else 0, *(sum(len(records) for place, records in sets if place == one) for one in SECTIONS)]
+    out, names = bytearray(head + b"".join(number.to_bytes(2, "big") for number in (flags, *counts))), []
+    if question:
+        names.append((question[0], 12))
+        out += plain.wire(question[0]) + question[1]
+    for _, records in sets:
+        for record in records:
+            put_record(out, names, record)
+    return bytes(out)
+
+
+def question_of(datagram):
+    """The name of the question, and its type and class as four octets; None unless exactly one question, whose name is written
+    without pointers, follows the header."""
+    name, end = plain.name_at(datagram, 12) if datagram[4:12] == b"\0\1\0\0\0\0\0\0" else (None, 0)
+    return None if name is None or len(datagram) != end + 4 else (name, datagram[end:])
+
+
+def reply(server, datagram, limit):
+    datagram = datagram[:512]
+    if len(datagram) < 12 or datagram[2] & 0x80:
+        return None
+    head, flags = datagram[:2], 0x8000 | (datagram[2] & 0x79) << 8
+    if datagram[2] & 0x78:
+        return message(head, flags | 4, None, [])
+    question = question_of(datagram)
+    if question is None:
+        return message(head, flags | 1, None, [])
+    name, kind = question[0], int.from_bytes(question[1][:2], "big")
+    if question[1][2:] != b"\0\1":
+        return message(head, flags | 5, question, [])
+    if kind in (0, 41) or 128 <= kind <= 254:
+        return message(head, flags | 4, question, [])
+    if not is_below(name, ORIGIN):
+        return message(head, flags | 5, question, [])
+    sets, required, rcode, is_ours = server.sets(name, kind)
+    kept = len(sets)
+    while len(message(head, 0, question, sets[:kept])) > limit:
+        kept -= 1
+    flags |= rcode | (0x400 if is_ours else 0) | (0x200 if kept < required else 0)
+    return message(head, flags, question, sets[:kept])
+
+
+# ---- datagrams
+
+def queries(records):
+    """A query for each type of the zone, and for types 255 and 99, at each of its names and at some others."""
+    names = {record[0] for record in records}
+    names |= {(b"x", *name) for name in names} | {(b"*", b"wild", b"example"), (b"Www", b"eXample"), (b"other",), (),
+                                                  (b"a" * 63,) * 3 + ORIGIN}
+    kinds = sorted({record[1] for record in records}) + [255, 99]
+    return [dns.message.make_query(dns.name.Name((*name, b"")), kind, id=0x1234).to_wire() for name in sorted(names) for kind in kinds]
+
+
+def changed_query(chance, query):
+    """A query after zero to four random changes: it is truncated, parts are duplicated or removed, octets changed or added."""
+    octets = bytearray(query)
+    for _ in range(chance.choice([0, 1, 1, 2, 4])):
+        at, end = sorted((chance.randrange(len(octets) + 1), chance.randrange(len(octets) + 1)))
+        way = chance.randrange(8)
+        if way < 3 and octets:
+            octets[chance.randrange(len(octets))] = chance.choice([0, 1, 42, 63, 64, 65, 191, 192, 255, chance.randrange(256)])
+        elif way == 3 and octets:
+            octets[chance.randrange(len(octets))] ^= 1 << chance.randrange(8)
+        elif way == 4:
+            del octets[at:]
+        elif way == 5:
+            octets[at:at] = octets[at:end]
+        elif way == 6:
+            del octets[at:at + chance.randrange(3)]
+        else:
+            octets += chance.randbytes(chance.choice([1, 4, 600]))
+    return bytes(octets)
+
+
+@pytest.mark.parametrize("count", [20_000, pytest.param(1_000_000, marks=slow)])
+@pytest.mark.parametrize("words, limit", [([], 512), (["--tcp"], 65_535)], ids=["udp", "tcp"])
+def test_datagrams(programs, tmp_path, words, limit, count):
+    """`zoneserve once` gives each of count/2 datagrams the reply of the plain server, octet for octet."""
+    chance, records = random.Random(limit), records_of_zone()
+    server, asked, replies = Server(records), queries(records), 0
+    datagrams = [changed_query(chance, chance.choice(asked)) for _ in range(count // 2)]
+    given = tmp_path / "given"
+    given.write_text("".join(datagram.hex() + "\n" for datagram in datagrams))
+    with given.open() as source:
+        run = subprocess.run([programs / "zoneserve", "once", *words, "example", ZONE], stdin=source, capture_output=True, check=True)
+    for datagram, line in zip(datagrams, run.stdout.decode().splitlines(), strict=True):
+        wanted = reply(server, datagram, limit)
+        replies += wanted is not None and len(wanted) > 12
+        assert line == ("none" if wanted is None else wanted.hex()), datagram.hex()
+    assert replies > count / 8
+
+
+# ---- zone files
+
+def checked(text, zone):
+    """The expected output of zonecheck for a file, its expected status, and the records if it is a zone without a fault."""
+    found, records = plain.faults_of(text, zone, first=True)
+    if found:
+        (_, code, _, begin), = found
+        return f"line {text.count(10, 0, begin) + 1}: R{code:02}\n", 1, ()
+    if faults := "".join(f"{plain.spelled(name)} Z{code:02}\n" for name, code in plain.checks(zone, records)):
+        return faults, 1, ()
+    serial = next(int.from_bytes(data[-20:-16], "big") for _, kind, data, _ in records if kind == 6)
+    return f"zone {plain.spelled(zone, '')}/IN: loaded serial {serial}\nOK\n", 0, records
+
+
+def printed(records):
+    """The canonical text of a zone that has only A, NS and SOA records, as the zones of a sweep do."""
+    def data(kind, octets):
+        names = [plain.spelled(part) for part in plain.parts_of(kind, octets) if isinstance(part, tuple)]
+        numbers = [int.from_bytes(octets[at:at + 4], "big") for at in range(len(octets) - 20, len(octets), 4)] if kind == 6 else ()
+        return ".".join(map(str, octets)) if kind == 1 else " ".join([*names, *map(str, numbers)])
+
+    types = {number: name for name, (number, _) in plain.TYPES.items()}
+    inorder = sorted(records, key=lambda record: (record[1] != 6, record[0][::-1], record[1], record[2]))
+    return "".join(f"{plain.spelled(owner)} {ttl} IN {types[kind]} {data(kind, octets)}\n" for owner, kind, octets, ttl in inorder)
+
+
+# For each sweep, the most pieces of a text, and the pieces. First they are octets that begin or end tokens, then parts of
+# entries, then whole lines.
+SWEPT = [
+    (5, [b" ", b"\n", b"(", b")", b'"', b";", b"\\", b"1", b"a", b"\r"]),
+    (5, [b" ", b"\n", b"a ", b"B", b"1 ", b"IN ", b"A 1.2.3.4", b"$TTL ", b"$origin ", b"("]),
+    (4, [b"a 1 A 192.0.2.1\n", b"b A 192.0.2.1 ; x\n", b" A 192.0.2.2\r\n", b"@ 7 A 0.0.0.0\n", b"$TTL 5\n", b"$ORIGIN a\n",
+         b"$ORIGIN .\n", b" 3 A (\n255.255.255.255 )\n", b"\\065\\.x IN type1 1.1.1.1\n", b"\n"]),
+]
+# The end that is added to each text. It has the SOA and NS records that a zone needs.
+END = b"\n$ORIGIN example.\n@ 1 SOA . . 1 1 1 1 1\n@ 1 NS .\n"
+
+
+def swept(fewer):
+    """All texts of up to four or five pieces, or of `fewer` fewer; each as it is, and with END after it."""
+    for most, pieces in SWEPT:
+        for count in range(most + 1 - fewer):
+            for chosen in itertools.product(pieces, repeat=count):
+                yield b"".join(chosen)
+                yield b"".join(chosen) + END
+
+
+@pytest.mark.parametrize("fewer", [3, pytest.param(0, marks=slow)])
+def test_all_short_texts(programs, tmp_path, fewer):
+    """`zonecheck --print` writes for each text what the plain reader, checker and printer say."""
+    def zones(share):
+        place, texts = share
+        file, count = tmp_path / str(place), 0
+        for text in texts:
+            file.write_bytes(text)
+            run = subprocess.run([programs / "zonecheck", "--print", "example", file], capture_output=True, timeout=20)
+            wanted, status, records = checked(text, ORIGIN)
+            wanted = printed(records) if status == 0 else wanted
+            assert (run.stdout.decode("latin-1"), run.returncode, run.stderr) == (wanted, status, b""), text
+            count += status == 0
+        return count
+
+    workers, texts = os.cpu_count(), list(swept(fewer))
+    with ThreadPoolExecutor(workers) as pool:
+        assert sum(pool.map(zones, enumerate(texts[place::workers] for place in range(workers)))) >= (10 if fewer else 1_000)
+
+
+WORDS = [b"(", b")", b'"', b"\\", b";", b"\r\n", b"\n", b" ", b"\n\n", b"@", b"*", b"$TTL 5\n", b"$ORIGIN x\n", b"$x 1\n", b"\\# 1 0a",
+         b"TYPE65280", b"CH", b"IN", b"A", b"NS", b"CNAME", b"MX 10", b"192.0.2.1", b"::1", b"1h", b"0", b"2147483648", b"\\065",
+         b"\\256", b"\xc3\xa4", b"\0", b"a.b.", b"..", b"w" * 64]
+
+
+def changed_text(chance, text):
+    for _ in range(chance.choice([0, 1, 1, 1, 2, 3])):
+        at = chance.randrange(len(text) + 1)
+        end = min(len(text), at + chance.randrange(1, 40))
+        lines = text.split(b"\n")
+        line = chance.randrange(len(lines))
+        way = chance.randrange(8)
+        if way == 0:
+            text = text[:at] + bytes([chance.randrange(256)]) + text[at + 1:]
+        elif way == 1:
+            text = text[:at] + chance.choice(WORDS) + text[at:]
+        elif way == 2:
+            text = text[:at] + text[end:]
+        elif way == 3:
+            text = text[:at] + text[at:end] * 2 + text[end:]
+        elif way == 4:
+            text = text[:at]
+        elif way == 5:
+            text = b"\n".join(lines[:line] + lines[line + 1:])
+        elif way == 6:
+            text = b"\n".join(lines[:line] + [lines[chance.randrange(len(lines))]] + lines[line:])
+        else:
+            words = re.split(rb"( +)", lines[line])
+            words[chance.randrange(len(words))] = chance.choice(WORDS)
+            text = b"\n".join(lines[:line] + [b"".join(words)] + lines[line + 1:])
+    return text
+
+
+@pytest.mark.parametrize("count", [500, pytest.param(100_000, marks=slow)])
+def test_zone_files(programs, tmp_path, count):
+    chance, file = random.Random(1), tmp_path / "zone"
+    texts = [path.read_bytes() for path in [*sorted((TOP / "examples").glob("*.zone")), ZONE]]
+    texts = [(text, re.search(rb"origin is (\S+?)\.?\n", text)) for text in texts]
+    for _ in range(count):
+        text, origin = chance.choice(texts)
+        origin = origin[1].decode() if origin else "example"
+        text = changed_text(chance, text)
+        file.write_bytes(text)
+        run = subprocess.run([programs / "zonecheck", origin, file], capture_output=True, timeout=20)
+        wanted, status, _ = checked(text, tuple(label.encode().lower() for label in origin.split(".")))
+        assert (run.stdout.decode("latin-1"), run.returncode, run.stderr) == (wanted, status, b""), (origin, text)
+
+
+# ---- messages
+
+def broken_messages():
+    """Ten captured messages: each truncated to each shorter length, and with each octet changed to each of six values."""
+    lines = re.findall(r"\nstandard input\n\|([0-9a-f]+)\n", (TOP / "crates" / "replay" / "data" / "captured.cases").read_text())
+    for whole in map(bytes.fromhex, lines[:10]):
+        yield from (whole[:end] for end in range(len(whole)))
+        yield from (whole[:place] + bytes([octet]) + whole[place + 1:]
+                    for place in range(len(whole)) for octet in [0, 63, 64, 191, 192, 255])
+
+
+def is_read(programs, octets):
+    """Whether dnsmsg prints a message and ends with 0, or a fault from 1 to 6 and ends with 1."""
+    run = subprocess.run([programs / "dnsmsg"], input=octets.hex() + "\n", capture_output=True, text=True, timeout=20)
+    wanted = r"header (?s:.*)" if run.returncode == 0 else r"fault [1-6]\n"
+    return run.returncode in (0, 1) and re.fullmatch(wanted, run.stdout) and run.stderr == ""
+
+
+def test_broken_messages(programs):
+    with ThreadPoolExecutor(4) as pool:
+        octets = list(broken_messages())
+        assert [one.hex() for one, read in zip(octets, pool.map(lambda one: is_read(programs, one), octets)) if not read] == []
+
+
+def test_the_message_with_the_most_pointers(programs):
+    """Questions of six octets each, of which the name, the type and the class are all pointers. The first pointer leads to the
+    root, and each other one to the pointer before it, or to the last pointer that can be reached (RFC 1035 4.1.4)."""
+    count = (65_535 - 12 - 5) // 6
+    pointers = (0xC000 | max(12, min(place - 2, 16_383)) for place in range(13, 17 + 6 * count, 2))
+    head = b"".join(number.to_bytes(2, "big") for number in (1, 0x8000, 1 + count, 0, 0, 0))
+    begun = time.monotonic()
+    assert is_read(programs, head + b"\0" + b"".join(pointer.to_bytes(2, "big") for pointer in pointers))
+    assert time.monotonic() - begun < 20

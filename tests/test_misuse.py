@@ -1,0 +1,213 @@
+"""Wrong calls, files and outputs of the built programs; and what a caller of the libraries must not do, or no test would notice."""
+import os
+import re
+import shutil
+import subprocess
+
+import pytest
+from servers import TOP, run
+
+LOADED, FAULTS = "zone example/IN: loaded serial 1\nOK\n", "example. Z10\nexample. Z11\nwww.example. Z06\n"
+# For each program, its calls in examples/: the status, what is written to each stream, and the words.
+CALLS = {
+    "zonecheck": [
+        (0, LOADED, "", "example example.zone"), (0, LOADED, "", "EXAMPLE. example.zone"), (0, "", "", "--quiet example example.zone"),
+        (1, FAULTS, "", "example faulty.zone"), (1, FAULTS, "", "--print example faulty.zone"),
+        (1, FAULTS, "", "--print --quiet example faulty.zone"), (1, "", "", "--quiet example faulty.zone"),
+        *((2, "", "usage\n", words) for words in [
+            "", "example", "example example.zone more", "--quiet --quiet example example.zone",
+            "--print --print example example.zone", "--verbose example example.zone", "-q example example.zone",
+            "--quiet=1 example example.zone", "example --print example.zone", "example example.zone --print",
+            "-- example example.zone", "--help", "example -"]),
+        # An invalid origin is reported before a missing file.
+        (2, "", "bad origin\n", "a..b nowhere.zone"), (2, "", "bad origin\n", " nowhere.zone"),
+        (2, "", "bad origin\n", f"{'a' * 64} example.zone"), (2, "", "R16\n", "example nowhere.zone"),
+        (2, "", "R16\n", "--quiet example nowhere.zone"), (2, "", "R16\n", "example .")],
+    "zoneserve": [
+        (0, "", "", "once example example.zone"), (1, "", FAULTS, "once example faulty.zone"),
+        (1, "", "line 2: R13\n", "once example FOLDER/mapped.zone"), (1, "", "line 1: R03\n", "once example FOLDER/open.zone"),
+        (2, "", "R16\n", "once example nowhere.zone"), (2, "", "bad origin\n", "once a..b nowhere.zone"),
+        (2, "", "usage\n", "once example"),
+        # `--` is an address that can't be used, and is judged after the origin, the file and the zone.
+        (2, "", "bind\n", "udp -- 1 example example.zone"), (2, "", "R16\n", "tcp -- 1 example nowhere.zone")],
+    # It checks arguments, origin, file and zone before the socket, which standard input is not.
+    "zonesocket": [
+        *((2, "", "usage\n", words) for words in [
+            "", "udp 1 example", "once 1 example example.zone", "udp 0 example example.zone", "tcp 01 example example.zone",
+            "tcp 1000001 example example.zone", "udp 1 example -", "udp 1 example example.zone more"]),
+        (2, "", "bad origin\n", "udp 1 a..b nowhere.zone"), (2, "", "R16\n", "tcp 1 example nowhere.zone"),
+        (1, "", FAULTS, "tcp 1 example faulty.zone"), (2, "", "bind\n", "udp 1 example example.zone"),
+        (2, "", "bind\n", "tcp 1 example example.zone")],
+}
+EXAMPLES = TOP / "examples"
+
+
+@pytest.mark.parametrize("program, status, output, errors, words", [(name, *row) for name, rows in CALLS.items() for row in rows])
+def test_a_call(programs, tmp_path, program, status, output, errors, words):
+    (tmp_path / "mapped.zone").write_text("$TTL 5\n@ AAAA ::192.0.2.1\n")
+    (tmp_path / "open.zone").write_text('@ NS "')
+    words = words.replace("FOLDER", str(tmp_path)).split(" ") if words else []
+    done = run(programs / program, *words, cwd=EXAMPLES, stdin=subprocess.DEVNULL)
+    assert (done.returncode, done.stdout, done.stderr) == (status, output, errors)
+
+
+@pytest.mark.parametrize("program, words, output", [("zonecheck", [], LOADED), ("zoneserve", ["once"], "")])
+def test_the_name_of_a_program_need_not_be_utf_8(programs, tmp_path, program, words, output):
+    named = os.fsencode(tmp_path / program) + b"\xff"
+    shutil.copy(programs / program, named)
+    done = subprocess.run([named, *words, "example", EXAMPLES / "example.zone"], capture_output=True, input=b"")
+    assert (done.returncode, done.stdout, done.stderr) == (0, output.encode(), b"")
+
+
+@pytest.mark.parametrize("device", [">/dev/full", ">&-", "| head -c 100 >/dev/null; exit ${PIPESTATUS[0]}"])
+@pytest.mark.parametrize("option", ["", "--print"])
+def test_an_output_that_fails(programs, tmp_path, option, device):
+    zone = EXAMPLES / "example.zone"
+    if "|" in device:
+        option, zone = "--print", tmp_path / "mixed.zone"
+        zone.write_bytes(subprocess.run([TOP / "bench" / "mixed-zone"], capture_output=True, check=True).stdout)
+    done = run("bash", "-c", f"zonecheck {option} example {zone} {device}")
+    assert (done.returncode, done.stderr) == (2, "P1\n")
+
+
+@pytest.mark.peers("strace")
+@pytest.mark.parametrize("option", ["", "--print"])
+def test_a_device_is_not_used_again_after_it_has_failed(programs, tmp_path, option):
+    zone, calls = EXAMPLES / "example.zone", tmp_path / "calls"
+    done = run("bash", "-c", f"strace -qq -e trace=write,writev -o {calls} zonecheck {option} example {zone} >/dev/full")
+    assert (done.returncode, done.stderr) == (2, "P1\n")
+    assert len(re.findall(r"^writev?\(1,", calls.read_text(), re.M)) == 1
+
+
+# ---- what the compiler must refuse
+
+CALLER = """//! A caller that is lent a walk over a zone.
+#![tactic(auto)]
+
+use dns_zone::{Node, Steps, Zone};
+
+pub fn lent<'z>(zone: &'z Zone, steps: &mut Steps<'z>, node: &Node<'z>) -> u32 {
+    let own = Steps::new(zone);
+    let named = node.first_set().is_some();
+    %s
+}
+"""
+# The error, and no other, for a caller of a walk (`Steps` of `dns_zone`, which counts the nodes that it reaches) that ends with
+# an expression.
+REFUSED = [
+    # A walk is neither cloned nor copied.
+    ("unknown-method", "own.clone().visits()"),
+    ("move-out-of-place", "{ let copy = *steps; copy.visits() }"),
+    ("borrow-e0382", "{ let other = own; own.visits() + other.visits() }"),
+    # Neither a walk nor a node gives a zone, which would allow a second walk.
+    ("private-field", "{ let tree = steps.tree; 0 }"),
+    ("unknown-method", "Steps::new(steps.zone()).visits()"),
+    ("private-field", "{ let tree = node.tree; 0 }"),
+    ("unknown-method", "Steps::new(node.zone()).visits()"),
+    ("mismatched-types", "Steps::new(steps).visits()"),
+    # Neither can be constructed, and no count can be reset.
+    ("private-field", "{ let made = Steps { tree: node.tree, counts: steps.counts }; made.visits() }"),
+    ("private-field", "{ let made = Node { tree: node.tree, row: node.row }; 0 }"),
+    ("private-field", "{ steps.counts = own.counts; 0 }"),
+    ("unknown-method", "{ let made = Node::of_origin(zone); 0 }"),
+]
+KEY = "        let key = LabelKey::of(label);"
+# Expressions that are refused as `private-field` even in dns_zone: the file, the expression, and the line before which it is put.
+# Neither a walk nor a node reaches an allocator. The search for a child reaches no row, record or key of the tree, and makes or
+# resets no count.
+WITHIN = [
+    ("steps.rt", "self.tree.zone.records.items.allocator()", "        self.counts.count_visit();"),
+    ("node.rt", "self.tree.rows.items.allocator()", "        let own = self.own();"),
+    ("search.rt", "self.tree.rows.lent()", "        let kids = self.kids();"),
+    ("search.rt", "steps.tree.rows.lent()", "        let kids = self.kids();"),
+    ("search.rt", "kids.rows[0].key.front", KEY),
+    ("search.rt", "kids.tree.zone.records()", KEY),
+    ("search.rt", "Counts { visits: 0, comparisons: 0 }", KEY),
+    ("search.rt", "{ counts.comparisons = 0; 0 }", KEY),
+]
+
+
+@pytest.fixture(scope="module")
+def zone_library(tmp_path_factory):
+    """A folder outside the repository with a copy of dns_zone, of the crates that it uses, and of what is built of them."""
+    assert run("rt", "lib", cwd=TOP / "crates" / "dns_zone", timeout=7200).returncode == 0
+    folder, lines = tmp_path_factory.mktemp("library"), (TOP / "crates.txt").read_text().splitlines()
+    uses = {line.split(":")[0]: line.split(":")[1].split() for line in lines if ":" in line}
+    names = [name for name in ["dns_zone", *uses["dns_zone"]] if (TOP / "crates" / name).is_dir()]
+    for name in names:
+        for part in ("src", "specs", "proofs", "out/rlib"):
+            if (TOP / "crates" / name / part).is_dir():
+                shutil.copytree(TOP / "crates" / name / part, folder / "crates" / name / part)
+    kept = [line for line in lines if line.split(":")[0] in names]
+    (folder / "crates.txt").write_text("\n".join([*kept, "caller: dns_zone", ""]))
+    (folder / "crates" / "caller" / "src").mkdir(parents=True)
+    return folder / "crates"
+
+
+def errors_of(crate):
+    """The errors that the check prints before it proves anything, or None if it ends well or begins to prove."""
+    done = run("rt", "check", cwd=crate, timeout=7200)
+    said = done.stdout + done.stderr
+    proves = done.returncode == 0 or re.search("^logic=", said, re.M)
+    return None if proves else set(re.findall(r"^src/[a-z/]*\.rt:[0-9:]* error\[([a-z0-9-]*)\]", said, re.M))
+
+
+@pytest.mark.slow
+@pytest.mark.peers("rt")
+@pytest.mark.parametrize("error, expression", [(None, "if named { own.visits() } else { steps.visits() }"), *REFUSED])
+def test_misuse_of_a_walk(zone_library, error, expression):
+    (zone_library / "caller" / "src" / "lib.rt").write_text(CALLER % expression)
+    assert errors_of(zone_library / "caller") == (error and {error})
+
+
+@pytest.mark.slow
+@pytest.mark.peers("rt")
+@pytest.mark.parametrize("file, expression, line", WITHIN)
+def test_misuse_of_a_tree(zone_library, file, expression, line):
+    source = zone_library / "dns_zone" / "src" / "tree" / file
+    text = source.read_text()
+    try:
+        changed = text.replace(f"\n{line}", f"\n    let _ = {expression};\n{line}", 1)
+        source.write_text(changed)
+        assert changed != text and errors_of(zone_library / "dns_zone") == {"private-field"}
+    finally:
+        source.write_text(text)
+
+
+# ---- bodies that wrongly report that memory is missing
+
+# No contract rejects such a body, because a contract can't state when memory is available. So they can't be must-fail edits. For
+# each: the file, a text that occurs there once, the text that replaces it, the crate of tests, the modules of tests that are run
+# (without proofs), and the test that must fail.
+BODIES = [
+    ("dns_tools/src/load.rt", "        Ok(zone) => Ok(zone),\n", "        Ok(_zone) => Err(LoadFault::Stopped(Stop::Memory)),\n",
+     "dns_tools_tests", ["load"], "load::the_sample_file"),
+    ("dns_tools/src/check.rt", "            let outcome = report_zone(flags, &zone, sink);\n",
+     "            let outcome = Err(Stop::Memory);\n", "dns_tools_tests", ["check", "devices", "load"], "check::a_zone_that_passes"),
+    ("dns_tools/src/message.rt", "    print_octets(alloc, &room[..len], sink)\n", "    let _len = len;\n    Err(Stop::Memory)\n",
+     "dns_tools_tests", ["devices", "message"], "message::the_first_line_alone"),
+    ("dns_zone/src/store.rt", "            return Err(BuildFault::Faults(found));\n        }\n",
+     "            return Err(BuildFault::Faults(found));\n        }\n        if !records.is_empty() {\n"
+     "            return Err(BuildFault::NoMemory);\n        }\n", "dns_zone_tests", ["building"], "building::origins_and_serials"),
+]
+
+
+@pytest.mark.slow
+@pytest.mark.peers("rt")
+@pytest.mark.parametrize("file, old, new, tests, modules, test", BODIES, ids=[body[-1] for body in BODIES])
+def test_a_wrong_body_is_noticed(tmp_path, file, old, new, tests, modules, test):
+    crates = tmp_path / "crates"
+    shutil.copytree(TOP / "crates", crates, ignore=shutil.ignore_patterns("out"))
+    for other in ("crates.txt", "HANDLES"):
+        shutil.copy(TOP / other, tmp_path)
+    text = (crates / file).read_text()
+    assert text.count(old) == 1
+    (crates / file).write_text(text.replace(old, new))
+    sources = crates / tests / "src"
+    (sources / "tests.rt").write_text("".join(f"mod {module};\n" for module in modules))
+    for other in (sources / "tests").iterdir():
+        if other.stem not in modules:
+            other.unlink()
+    done = run("rt", "try", "--test", cwd=crates / tests, timeout=7200)
+    said = done.stdout + done.stderr
+    assert "test result: " in said and f"test tests::{test} ... FAILED" in said
