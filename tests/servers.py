@@ -1,12 +1,10 @@
 """Servers, sockets and queries, for tests and benches."""
 import contextlib
 import os
-import signal
 import socket
 import struct
 import subprocess
 import sys
-import tempfile
 import time
 from pathlib import Path
 
@@ -158,6 +156,28 @@ class Workers:
         return sorted(int(line.split()[0]) for line in listed.splitlines() if f"zonesocket {transport}" in line)
 
 
+class Steady:
+    """Runs bench/steadily during the body, and for `least` seconds: it asks over UDP at a steady rate, and over TCP with a new
+    connection for each question. Then it has the numbers that bench/steadily prints."""
+
+    def __init__(self, address, origin, rate=5_000, connections=500, least=0, **settings):
+        self.words = [sys.executable, TOP / "bench" / "steadily", *map(str, address), origin, str(rate), str(connections)]
+        self.least, self.environment = least, {**os.environ, **settings}
+
+    def __enter__(self):
+        self.end = time.monotonic() + self.least
+        self.client = subprocess.Popen(self.words, stdin=subprocess.PIPE, stdout=subprocess.PIPE, text=True, env=self.environment)
+        assert self.client.stdout.readline() == "begun\n"
+        time.sleep(0.5)
+        return self
+
+    def __exit__(self, *_):
+        time.sleep(max(0, self.end - time.monotonic()))
+        fields = self.client.communicate("\n", timeout=60)[0].split()
+        self.lost, self.asked, self.lost_tcp, self.asked_tcp, *self.longest = map(int, fields[:6])
+        self.serials = [int(field) for field in fields[6:]]
+
+
 @contextlib.contextmanager
 def asking(address, seconds=2):
     """A UDP socket that is connected to a server."""
@@ -185,17 +205,3 @@ def is_answered(address, message):
         other.send(message)
         return other.recv(512)[:2] == message[:2] and asks(client, message)
     return False
-
-
-def main():
-    """`servers.py PROGRAMS ADDRESS PORT ORIGIN FILE` runs libexec/workers at sockets of this address until TERM. HUP reloads."""
-    programs, address, port, origin, file = sys.argv[1:]
-    with tempfile.TemporaryDirectory() as folder, Workers(programs, folder, (address, int(port)), origin, file) as workers:
-        signal.signal(signal.SIGHUP, lambda *_: workers.run.send_signal(signal.SIGHUP))
-        signal.signal(signal.SIGTERM, lambda *_: sys.exit(0))
-        while workers.run.poll() is None:
-            time.sleep(0.1)
-
-
-if __name__ == "__main__":
-    main()

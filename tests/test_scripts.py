@@ -8,11 +8,7 @@ ALL = ["zonecheck", "zoneserve", "dnsmsg", "zonesocket"]
 slow, root = pytest.mark.slow, pytest.mark.root
 # Each script, its arguments, in which names of programs are replaced by their paths, and its markers.
 SCRIPTS = [
-    ("test-deploy", ["zonecheck"], ()),
     ("faults", [*ALL, "refused"], [slow]),
-    ("test-behind", ALL, [slow, root]),
-    ("test-anycast", ALL, [slow, root]),
-    ("test-hidden", ALL, [slow, root]),
 ]
 
 
