@@ -31,10 +31,10 @@ $(PROGRAMS) &: $(SOURCES)
 programs:
 	packaging/build $(NAMES)
 
-# Installs everything under PREFIX, or under DESTDIR followed by PREFIX. The examples are in share/mitrehyssop, and the folder of
-# the documents only links to them: small systems may remove that folder, but services use some of the examples.
+# Installs everything under PREFIX, or under DESTDIR followed by PREFIX. The examples and the settings in
+# contrib/ are in share/mitrehyssop, and the folder of the documents only links to them: small systems may remove that folder.
 install: built
-	install -d "$(DESTDIR)$(PREFIX)/bin" "$(DESTDIR)$(PREFIX)/share/man/man1" "$(DOC)/docs/plots" "$(SHARE)/examples" "$(COMPLETIONS)"
+	install -d "$(DESTDIR)$(PREFIX)/bin" "$(DESTDIR)$(PREFIX)/share/man/man1" "$(DOC)/docs/plots" "$(SHARE)/examples" "$(SHARE)/contrib" "$(COMPLETIONS)"
 	install -d "$(LIBEXEC)" "$(UNITS)"
 	install -m 755 $(PROGRAMS) $(SCRIPTS) "$(DESTDIR)$(PREFIX)/bin"
 	install -m 644 $(MODULES) "$(SHARE)"
@@ -44,8 +44,10 @@ install: built
 	install -m 644 docs/plots/*.svg "$(DOC)/docs/plots"
 	install -m 755 libexec/* "$(LIBEXEC)"
 	cp examples/* "$(SHARE)/examples"
-	sed -i 's|/usr/share/|$(PREFIX)/share/|g' "$(DESTDIR)$(PREFIX)"/share/man/man1/zone*.1 "$(DOC)"/README.md "$(DOC)"/docs/*.md "$(SHARE)"/examples/*
+	cp contrib/* "$(SHARE)/contrib"
+	sed -i 's|/usr/share/|$(PREFIX)/share/|g' "$(DESTDIR)$(PREFIX)"/share/man/man1/zone*.1 "$(DOC)"/README.md "$(DOC)"/docs/*.md "$(SHARE)"/contrib/*
 	ln -sfn ../../mitrehyssop/examples "$(DOC)/examples"
+	ln -sfn ../../mitrehyssop/contrib "$(DOC)/contrib"
 	for unit in systemd/*; do sed 's|@PREFIX@|$(PREFIX)|' "$$unit" >"$(UNITS)/$${unit##*/}"; done
 	for name in $(NAMES) $(notdir $(SCRIPTS)); do install -m 644 packaging/completion "$(COMPLETIONS)/$$name"; done
 

@@ -118,7 +118,7 @@ class Warnings(Names):
             refuse(len(self.nodes) > MOST_NODES, f"more than {MOST_NODES:,} names own records or are above such names")
         # In a response policy zone owners are names and addresses of others on purpose.
         self.policy = any(record.data[0] in POLICY for sets in self.sets.values() for record in sets.get("CNAME", ())
-                          if record.data)
+                          if record.data) or any(".rpz-" in full for full in self.sets)
         self.glue = {record.data[0] for sets in self.sets.values() for record in sets.get("NS", ())}
 
     def aliased(self, full, before=(), most=None):
@@ -169,7 +169,7 @@ class Warnings(Names):
             yield record, "W35", "*" in full.removeprefix("*."), "a * that is not the whole first label matches nothing"
         if doubled:
             yield record, "W31", True, f"the owner is {full}: is a final dot missing?"
-        elif not self.arpa and not self.policy and FOUR.match(full):
+        elif not full.endswith(".arpa.") and not self.policy and FOUR.match(full):
             # In a DNSBL (RFC 5782) owners are addresses on purpose, and the data is a code in the form of an address, 127.0.0.2.
             yield record, "W32", not (hosts and hosts[0].data[0].startswith("127.")), f"the owner is an address: {full}"
         for pointer in (sets.get("PTR") or ())[:1] if self.arpa and not self.cut(full) else ():
@@ -184,7 +184,7 @@ class Warnings(Names):
             yield srv, "W36", near, f"the protocol {over} is not known: write {near and near[0]}"
         for host in hosts[:1]:
             if not HOST.fullmatch(full):
-                strange = "\\@" not in full and "*" not in full[1:] and not full.startswith(("_spf.", "a._spf.", "mx._spf."))
+                strange = "\\@" not in full and "*" not in full[1:] and not re.match(r"(?:a\.|mx\.)?_spf(?:_rate|_verify)?\.", full)
                 yield host, "W33", strange, f"{full} has an address, and an octet that host names do not have"
             if self.cuts and (cut := self.cut(full)):
                 yield host, "W47", full not in self.glue, \
@@ -241,7 +241,7 @@ class Warnings(Names):
         types = self.sets.get(full if full == closest else "*." + closest.lstrip("."), {})
         yield from [row for row in (
             ("W32", four, f"the target is an address: {full}; write the name of a host"),
-            ("W41", re.search("[/:]", full) and rtype != "PTR" and not self.arpa,
+            ("W41", re.search("[/:]", full) and rtype != "PTR" and not full.endswith(".arpa."),
              f"the target is a URL or has a port: {full}; write the name of the host"),
             ("W31", twice(full, self.zone), f"the target is {full}: is a final dot missing?"),
             ("W31", full.endswith(self.again), f"the target {full} ends like the zone, and then again with {self.zone.split('.')[-2]}"),

@@ -1,7 +1,7 @@
 //! Reads data, writes data, and answers queries repeatedly, for a tool that counts instructions.
 //!
 //! `bench ROUNDS` does the work of each line of standard input ROUNDS times, and prints how many
-//! octets the result has. `bench/replies` supplies the lines. Zone files are looked up in the current
+//! octets the result has. `bench/queries` supplies the lines. Zone files are looked up in the current
 //! directory.
 #![tactic(auto)]
 
