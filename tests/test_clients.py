@@ -307,7 +307,7 @@ def test_units(tmp_path):
     for unit in sorted((TOP / "systemd").iterdir()):
         text = unit.read_text().replace("@PREFIX@/libexec/mitrehyssop", str(LIBEXEC))
         units.append(tmp_path / unit.name.replace("@", "@example"))
-        units[-1].write_text(text + ((TOP / "examples" / "address.conf").read_text() if unit.suffix == ".socket" else ""))
+        units[-1].write_text(text + ((TOP / "contrib" / "address.conf").read_text() if unit.suffix == ".socket" else ""))
     done = subprocess.run(["systemd-analyze", "verify", "--man=no", *units], capture_output=True, text=True)
     assert done.returncode == 0, done.stderr
     service = next(unit for unit in units if unit.suffix == ".service")

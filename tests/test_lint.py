@@ -314,21 +314,21 @@ def test_serials(lint, git, serial, more, wanted):
 
 
 def test_the_hook_of_git(lint, git):
-    """examples/pre-commit checks what is staged, and not what is beside it."""
+    """contrib/pre-commit checks what is staged, and not what is beside it."""
     Path("z").write_text(SERVED)
     Path("zones").write_text("# the zones\nexample example.com.zone\nexample z\n")
     for staged, beside, wanted in ((SERVED + "x A 192.0.2.256\n", SERVED, 1), (SERVED + "x A 192.0.2.25\n", "x", 0)):
         Path("example.com.zone").write_text(staged)
         git("add", "example.com.zone")
         Path("example.com.zone").write_text(beside)
-        done = run(TOP / "examples" / "pre-commit")
+        done = run(TOP / "contrib" / "pre-commit")
         assert done.returncode == wanted and ("example.com.zone:6: R13: " in done.stdout) == wanted
     Path("example.com.zone").write_text(SERVED + "x A 192.0.2.256\n")
     git("add", "example.com.zone")
     for listed, said in (("example example.com.zone\r\n", "example.com.zone:6: R13: "),
                          ("example example.zone\n", "zones lists 'example.zone' for example"), ("example\n", "''")):
         Path("zones").write_text(listed)
-        done = run(TOP / "examples" / "pre-commit")
+        done = run(TOP / "contrib" / "pre-commit")
         assert done.returncode == 1 and said in done.stdout + done.stderr
 
 

@@ -16,7 +16,7 @@ import pytest
 from servers import TOP, Steady, Workers, run, until
 
 pytestmark = [pytest.mark.slow, pytest.mark.root, pytest.mark.peers("ip", "dig")]
-EXAMPLES = TOP / "examples"
+CONTRIB = TOP / "contrib"
 ZONE = "$TTL 60\n@ SOA ns h {} 2 3 4 5\n@ NS ns\nns A 192.0.2.1\nwww A 192.0.2.2\n"
 NEW_NETWORK = 0x40000000
 
@@ -73,9 +73,9 @@ def network(programs, tmp_path):
 
 @contextlib.contextmanager
 def dnsdist(folder, more=""):
-    """Runs dnsdist with the settings of examples/dnsdist.conf, and with `more` before the line that includes edns.lua. Yields a
+    """Runs dnsdist with the settings of contrib/dnsdist.conf, and with `more` before the line that includes edns.lua. Yields a
     function that runs a line in dnsdist's console."""
-    text = (EXAMPLES / "dnsdist.conf").read_text().replace("/usr/share/mitrehyssop/examples", str(EXAMPLES))
+    text = (CONTRIB / "dnsdist.conf").read_text().replace("/usr/share/mitrehyssop/contrib", str(CONTRIB))
     if more:
         text = text.replace("dofile(", f"{more}dofile(").replace("local rules = 2", "local rules = 3")
     conf = folder / "conf"
@@ -184,7 +184,7 @@ KNOT = {
 
 @pytest.mark.peers("nsd", "nsd-control", "knotd")
 def test_a_hidden_primary(network, tmp_path):
-    """NSD has the settings of examples/hidden-nsd.conf. Knot transfers the zone that zonedeploy wrote, and again after a deploy."""
+    """NSD has the settings of contrib/hidden-nsd.conf. Knot transfers the zone that zonedeploy wrote, and again after a deploy."""
     def deploy(serial, *command):
         (tmp_path / "new").write_text(ZONE.format(serial))
         done = run("zonedeploy", "example.com", tmp_path / "new", tmp_path / "example.com.zone", *command)
@@ -195,7 +195,7 @@ def test_a_hidden_primary(network, tmp_path):
         return said.endswith(f" {serial} 2 3 4 5\n")
     network.host("one", "192.0.2.10/32", "203.0.113.53/32")
     key, conf = base64.b64encode(os.urandom(32)).decode(), tmp_path / "nsd.conf"
-    text = (EXAMPLES / "hidden-nsd.conf").read_text().replace("THE KEY", key)
+    text = (CONTRIB / "hidden-nsd.conf").read_text().replace("THE KEY", key)
     conf.write_text(re.sub("/var/lib/mitrehyssop|/run/nsd", str(tmp_path), text) + NSD.format(folder=tmp_path))
     text = "".join("".join([f"{name}:\n", *(f"  {key}: {value}\n" for key, value in values.items())]) for name, values in KNOT.items())
     (tmp_path / "knot.conf").write_text(text.format(folder=tmp_path, key=key))
@@ -238,7 +238,7 @@ exec DIG "$@"
 
 
 class Anycast:
-    """A router with three hosts on one side and a client on the other. On each host run BIRD and examples/probe."""
+    """A router with three hosts on one side and a client on the other. On each host run BIRD and contrib/probe."""
 
     def __init__(self, network, programs, folder):
         self.network, self.programs, self.folder, self.workers = network, programs, folder, {}
@@ -259,10 +259,10 @@ class Anycast:
         for host in "123":
             text = run("zonecheck", "--print", "example.com", folder / "zone").stdout
             (folder / f"{host}.zone").write_text(text)
-            self.bird(host, (EXAMPLES / "anycast.conf").read_text().replace("198.51.100.11", f"198.51.100.1{host}"))
+            self.bird(host, (CONTRIB / "anycast.conf").read_text().replace("198.51.100.11", f"198.51.100.1{host}"))
             self.serve(host)
             settings = {"BIRDC": f"birdc -s {folder}/{host}.ctl", "OUT": f"{folder}/{host}.out"}
-            network.start(host, EXAMPLES / "probe", "example.com", "192.0.2.53", **settings)
+            network.start(host, CONTRIB / "probe", "example.com", "192.0.2.53", **settings)
 
     def bird(self, host, text):
         (self.folder / f"{host}.conf").write_text(text)
