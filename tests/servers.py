@@ -156,6 +156,50 @@ class Workers:
         return sorted(int(line.split()[0]) for line in listed.splitlines() if f"zonesocket {transport}" in line)
 
 
+class Serving:
+    """Runs zoneserve at an address, or zonesocket at a socket bound to it, during the body. `by` is a command that starts it."""
+
+    def __init__(self, program, transport, zone, origin, address, turns=1_000_000, by=(), given=None, **how):
+        kind = {"udp": socket.SOCK_DGRAM, "tcp": socket.SOCK_STREAM}[transport]
+        self.transport, self.address = transport, address
+        self.given = given or (bound(kind, address) if program.name == "zonesocket" else None)
+        words = [*by, program, transport, *([] if self.given else [f"{address[0]}:{address[1]}"]), turns, origin, zone]
+        how = {"stdin": self.given or subprocess.DEVNULL, "stdout": subprocess.PIPE, "stderr": subprocess.PIPE, **how}
+        self.run = subprocess.Popen(list(map(str, words)), **how)
+
+    def __enter__(self):
+        """zonesocket prints a line when it serves."""
+        if self.given:
+            self.serves = bool(self.run.stdout.readline())
+        else:
+            self.serves = until(lambda: self.is_bound() or self.run.poll() is not None, 10) and self.run.poll() is None
+        return self
+
+    def __exit__(self, *_):
+        self.end(6 if self.given else 0)
+        if self.given:
+            self.given.close()
+
+    def is_bound(self):
+        rows = [line.split() for line in Path(f"/proc/net/{self.transport}").read_text().splitlines()[1:]]
+        state = {"udp": "07", "tcp": "0A"}[self.transport]
+        return any(row[1].endswith(f":{self.address[1]:04X}") and row[3] == state for row in rows)
+
+    def end(self, seconds=6):
+        """Closes the reading end of its output, which ends zonesocket, and kills it if it does not end. Returns its status and the
+        words on standard error."""
+        if not self.run.stdout.closed:
+            self.run.stdout.close()
+        with contextlib.suppress(subprocess.TimeoutExpired):
+            self.run.wait(seconds)
+        self.run.kill()
+        self.status = self.run.wait()
+        if not self.run.stderr.closed:
+            with self.run.stderr as errors:
+                self.said = errors.read().decode().split()
+        return self.status, self.said
+
+
 class Steady:
     """Runs bench/steadily during the body, and for `least` seconds: it asks over UDP at a steady rate, and over TCP with a new
     connection for each question. Then it has the numbers that bench/steadily prints."""

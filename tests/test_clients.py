@@ -9,7 +9,7 @@ import time
 from pathlib import Path
 
 import pytest
-from servers import LIBEXEC, TOP, asking, asks, bound, connected, frame_of, framed, query, until
+from servers import LIBEXEC, TOP, Serving, asking, asks, connected, frame_of, framed, query, questions, until
 
 HERE, PORT, SOCKET_PORT, BELOW = "127.0.0.1", 5399, 5398, "127.0.0.53"
 ADDRESS = (HERE, PORT)
@@ -17,40 +17,16 @@ ZONE = TOP / "tests" / "data" / "served.zone"
 QUESTION = query("www.example")
 
 
-class Serving:
-    """Runs zoneserve at an address during the body."""
-
-    def __init__(self, programs, transport, zone=ZONE, origin="example", address=ADDRESS, turns=1_000_000):
-        self.address, self.transport = address, transport
-        words = [programs / "zoneserve", transport, f"{address[0]}:{address[1]}", str(turns), origin, zone]
-        self.run = subprocess.Popen(words, stdin=subprocess.DEVNULL, stderr=subprocess.PIPE)
-
-    def __enter__(self):
-        assert until(self.is_bound, 10)
-        return self
-
-    def __exit__(self, *_):
-        self.run.kill()
-        self.said = self.run.communicate()[1].decode()
-
-    def is_bound(self):
-        rows = [line.split() for line in Path(f"/proc/net/{self.transport}").read_text().splitlines()[1:]]
-        state = {"udp": "07", "tcp": "0A"}[self.transport]
-        return any(row[1].endswith(f":{self.address[1]:04X}") and row[3] == state for row in rows)
-
-    def resident(self):
-        return int(re.search(r"VmRSS:\s+(\d+)", Path(f"/proc/{self.run.pid}/status").read_text())[1])
+def zoneserve(programs, transport, zone=ZONE, origin="example", address=ADDRESS, **how):
+    return Serving(programs / "zoneserve", transport, zone, origin, address, **how)
 
 
-@contextlib.contextmanager
-def many(programs, zone=ZONE, address=(HERE, SOCKET_PORT)):
-    """Runs zonesocket for many connections during the body."""
-    with bound(socket.SOCK_STREAM, address) as given:
-        run = subprocess.Popen([programs / "zonesocket", "tcp", "1000000", "example", zone], stdin=given, stdout=subprocess.PIPE)
-        run.stdout.readline()
-        yield run
-        run.stdout.close()
-        assert run.wait(6) == 0
+def zonesocket(programs, zone=ZONE, address=(HERE, SOCKET_PORT)):
+    return Serving(programs / "zonesocket", "tcp", zone, "example", address)
+
+
+def resident(server):
+    return int(re.search(r"VmRSS:\s+(\d+)", Path(f"/proc/{server.run.pid}/status").read_text())[1])
 
 
 def over_udp(message, seconds=2):
@@ -69,21 +45,14 @@ def recorded():
 
 def test_octet_for_octet(programs):
     zone = TOP / "examples" / "example.zone"
-    with Serving(programs, "udp", zone):
+    with zoneserve(programs, "udp", zone):
         for asked, reply in recorded():
             wanted = None if reply == "none" else bytes.fromhex(reply)
             assert over_udp(asked, 2 if wanted else 0.2) == wanted
-    with Serving(programs, "tcp", zone), connected(ADDRESS) as client:
+    with zoneserve(programs, "tcp", zone), connected(ADDRESS) as client:
         client.sendall(b"".join(framed(asked) for asked, _ in recorded()))
         for _, reply in recorded():
             assert reply == "none" or frame_of(client) == bytes.fromhex(reply)
-
-
-def questions():
-    """The rows of tests/data/questions: the name and type, the line of status and flags, and the records, sorted."""
-    text = (TOP / "tests" / "data" / "questions").read_text()
-    blocks = [[line for line in block.split("\n") if line and not line.startswith("#")] for block in text.split("\n\n")]
-    return [(block[0].split(), block[1], sorted(map(str.lower, block[2:]))) for block in blocks if block]
 
 
 def said_by(text):
@@ -104,9 +73,9 @@ def said_by(text):
     pytest.param("kdig", ["+norec", "+noedns", "+ignore"], marks=pytest.mark.peers("kdig"))])
 @pytest.mark.parametrize("transport", ["udp", "tcp"])
 def test_a_client(programs, client, words, transport):
-    with Serving(programs, transport):
+    with zoneserve(programs, transport):
         for question, first, records in questions():
-            asked = [client, f"@{HERE}", "-p", str(PORT), *words, f"+{transport if transport == 'tcp' else 'notcp'}", *question]
+            asked = [client, f"@{HERE}", "-p", str(PORT), *words, f"+{transport if transport == 'tcp' else 'notcp'}", *question.split()]
             run = subprocess.run(asked, capture_output=True, text=True, timeout=20)
             assert said_by(run.stdout) == (first, records), " ".join(asked)
 
@@ -117,20 +86,20 @@ def test_questions_of_dig(programs):
     words = ["+norec", "+noedns", "+tcp", "+keepopen", "+short"]
     names = ["www.example.", "mail.example.", "host.wild.example."]
     asked = ["dig", f"@{HERE}", "-p", str(PORT), *[word for name in names for word in [*words, name, "A"]]]
-    with Serving(programs, "tcp", turns=1) as server:
+    with zoneserve(programs, "tcp", turns=1) as server:
         run = subprocess.run(asked, capture_output=True, text=True, timeout=20)
         assert run.stdout.split() == ["192.0.2.80", "192.0.2.25", "192.0.2.7"]
         assert server.run.wait(timeout=5) == 0
-    with Serving(programs, "udp"):
+    with zoneserve(programs, "udp"):
         run = subprocess.run(["dig", f"@{HERE}", "-p", str(PORT), "www.example.", "A"], capture_output=True, text=True, timeout=20)
         assert "status: FORMERR" in run.stdout and "+noedns" in run.stdout
 
 
 def test_truncation(programs):
-    with Serving(programs, "udp"):
+    with zoneserve(programs, "udp"):
         reply = over_udp(query("many.example"))
         assert reply[2] & 2 and reply[6:8] == b"\0\0"
-    with Serving(programs, "tcp"), connected(ADDRESS) as client:
+    with zoneserve(programs, "tcp"), connected(ADDRESS) as client:
         client.sendall(framed(query("many.example")))
         reply = frame_of(client)
         assert not reply[2] & 2 and reply[6:8] == bytes([0, 40])
@@ -138,21 +107,21 @@ def test_truncation(programs):
 
 @pytest.mark.parametrize("datagrams", [10_000, pytest.param(999_900, marks=pytest.mark.slow)])
 def test_memory_does_not_grow(programs, datagrams):
-    with Serving(programs, "udp") as server, asking(ADDRESS) as client:
+    with zoneserve(programs, "udp") as server, asking(ADDRESS) as client:
         over_udp(QUESTION)
-        before = server.resident()
+        before = resident(server)
         for _ in range(datagrams // 100):
             for _ in range(100):
                 client.send(QUESTION)
             assert all(client.recv(512)[:2] == QUESTION[:2] for _ in range(100))
-        assert server.resident() <= before
-    with Serving(programs, "tcp") as server:
+        assert resident(server) <= before
+    with zoneserve(programs, "tcp") as server:
         for number in range(datagrams // 100):
             with connected(ADDRESS) as client:
                 assert asks(client, QUESTION)
             if number == 10:
-                before = server.resident()
-        assert server.resident() <= before
+                before = resident(server)
+        assert resident(server) <= before
 
 
 def traced(process):
@@ -171,19 +140,19 @@ def stopped(process):
 @pytest.mark.parametrize("interrupts", [stopped, pytest.param(traced, marks=pytest.mark.peers("strace"))])
 def test_interrupted_calls(programs, interrupts):
     """The server goes on after a call in which it waits is interrupted: for a datagram, for octets, for room to send."""
-    with Serving(programs, "udp") as server:
+    with zoneserve(programs, "udp") as server:
         interrupts(server.run)
         assert over_udp(QUESTION)
-    assert server.said == ""
-    with many(programs) as run, connected((HERE, SOCKET_PORT), 15) as client:
-        interrupts(run)
+    assert server.said == []
+    with zonesocket(programs) as server, connected((HERE, SOCKET_PORT), 15) as client:
+        interrupts(server.run)
         assert asks(client, QUESTION)
         client.setblocking(False)
         sent, got, stream = 0, 0, framed(QUESTION) * 1_000
         with contextlib.suppress(BlockingIOError):
             while True:
                 sent += client.send(stream[sent % len(framed(QUESTION)):])
-        interrupts(run)
+        interrupts(server.run)
         client.setblocking(True)
         client.shutdown(socket.SHUT_WR)
         size = 0
@@ -196,8 +165,8 @@ def test_interrupted_calls(programs, interrupts):
 @pytest.mark.peers("dnsperf")
 def test_dnsperf_loses_nothing(programs, tmp_path):
     asked = tmp_path / "asked"
-    asked.write_text("".join(f"{question[0]} {question[1]}\n" for question, _, _ in questions()))
-    with Serving(programs, "udp"), many(programs):
+    asked.write_text("".join(f"{question}\n" for question, _, _ in questions()))
+    with zoneserve(programs, "udp"), zonesocket(programs):
         for words in [["-p", str(PORT)], *(["-p", str(SOCKET_PORT), "-m", "tcp", "-c", str(count)] for count in (1, 100, 250))]:
             said = subprocess.run(["dnsperf", "-s", HERE, "-d", asked, "-l", "2", *words], capture_output=True, text=True).stdout
             assert re.search(r"Queries lost:\s+0 ", said), said
@@ -263,7 +232,7 @@ def test_a_resolver(programs, tmp_path, name):
     """A resolver asks again over TCP, and keeps its connection open: others are served at once meanwhile."""
     zone = tmp_path / "zone"
     zone.write_text(ZONE.read_text() + "".join(f"*.large A 192.0.2.{number}\n" for number in range(1, 41)))
-    with Serving(programs, "udp", zone, address=(HERE, 5390)), many(programs, zone, (HERE, 5390)), \
+    with zoneserve(programs, "udp", zone, address=(HERE, 5390)), zonesocket(programs, zone, (HERE, 5390)), \
             resolving(name, tmp_path, 5397, 5390) as run:
         assert until(lambda: dig(5397, "www.example.", "A") == "192.0.2.80\n", 20) and run.poll() is None
         for turn in range(3):
@@ -278,14 +247,14 @@ def test_a_resolver(programs, tmp_path, name):
 @pytest.mark.peers("unbound", "dig")
 def test_a_delegation(programs, tmp_path):
     below = TOP / "tests" / "data" / "below.zone"
-    with Serving(programs, "udp"), Serving(programs, "udp", below, "sub.example", (BELOW, 53)), \
+    with zoneserve(programs, "udp"), zoneserve(programs, "udp", below, "sub.example", (BELOW, 53)), \
             resolving("unbound", tmp_path, 5397, PORT):
         assert until(lambda: dig(5397, "www.example.", "A") == "192.0.2.80\n", 20)
         assert "192.0.2.99" in dig(5397, "www.sub.example.", "A") and "192.0.2.99" in dig(5397, "deep.example.", "A")
 
 
 def test_zoneserve_serves_connections_one_after_another(programs):
-    with Serving(programs, "tcp") as server:
+    with zoneserve(programs, "tcp") as server:
         with connected(ADDRESS) as first, connected(ADDRESS) as second:
             assert asks(first, QUESTION)
             second.sendall(framed(QUESTION))
@@ -297,7 +266,7 @@ def test_zoneserve_serves_connections_one_after_another(programs):
             assert asks(client, QUESTION) and time.monotonic() - begun < 3 * 2.5
         for one in silent:
             one.close()
-    assert set(server.said.split()) <= {"S1"}
+    assert set(server.said) <= {"S1"}
 
 
 @pytest.mark.peers("systemd-analyze")

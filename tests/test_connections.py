@@ -13,7 +13,7 @@ import time
 
 import pytest
 import servers
-from servers import asking, bound, connected, frame_of, framed, query, until
+from servers import Serving, asking, bound, connected, frame_of, framed, query, until
 
 HERE = ("127.0.0.1", 5391)
 ORIGIN = "example.com"
@@ -42,36 +42,8 @@ def replies(programs, zone):
     return [b"" if line == "none" else framed(bytes.fromhex(line)) for line in said]
 
 
-class Server:
-    """Runs zonesocket at a socket until its end."""
-
-    def __init__(self, programs, zone, transport="tcp", turns=1_000_000, given=None, **how):
-        kind = {"tcp": socket.SOCK_STREAM, "udp": socket.SOCK_DGRAM}[transport]
-        self.given = given or bound(kind, HERE)
-        words = [programs / "zonesocket", transport, str(turns), ORIGIN, zone]
-        self.run = subprocess.Popen(words, stdin=self.given, stdout=subprocess.PIPE, stderr=subprocess.PIPE, **how)
-
-    def __enter__(self):
-        self.line = self.run.stdout.readline()
-        return self
-
-    def __exit__(self, *_):
-        self.end()
-        self.given.close()
-
-    def end(self, seconds=6):
-        """Closes the reading end of standard output, and returns the status and the words on standard error."""
-        if not self.run.stdout.closed:
-            self.run.stdout.close()
-        try:
-            self.status = self.run.wait(seconds)
-        except subprocess.TimeoutExpired:
-            self.run.kill()
-            self.status = "does not end"
-        if not self.run.stderr.closed:
-            self.said = self.run.stderr.read().decode().split()
-            self.run.stderr.close()
-        return self.status, self.said
+def Server(programs, zone, transport="tcp", **how):  # noqa: N802
+    return Serving(programs / "zonesocket", transport, zone, ORIGIN, HERE, **how)
 
 
 async def one_connection(number, replies):
