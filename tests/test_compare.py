@@ -18,107 +18,23 @@ import types
 import dns.exception
 import dns.flags
 import dns.message
-import dns.name
 import dns.query
 import dns.rcode
-import dns.rdataclass
 import dns.rdatatype
 import dns.rrset
-import dns.zone
 import pytest
 import servers
-from servers import TOP, until
+from servers import TOP, Serving, until
+from test_hostile import Server
 
 sys.path.insert(0, str(TOP / "bench"))
 import rivals  # noqa: E402
 
-COMPARE = TOP / "bin" / "zonecompare"
+COMPARE, DATA = TOP / "bin" / "zonecompare", TOP / "tests" / "data"
 AA, TC, RA = dns.flags.AA, dns.flags.TC, dns.flags.RA
-ZONE = """$TTL 300
-@ SOA ns host 5 7200 900 1209600 60
-@ NS ns
-ns A 192.0.2.1
-www A 192.0.2.10
-www A 192.0.2.11
-alias CNAME www
-away CNAME www.example.net.
-loop CNAME loop
-lost CNAME gone
-deep CNAME x.sub
-*.w TXT "any"
-*.v A 192.0.2.7
-x.ent AAAA 2001:db8::1
-mail MX 10 ns
-mail MX 20 m.v
-sub NS ns.sub
-sub NS ns.other.
-ns.sub A 192.0.2.53
-ns.sub AAAA 2001:db8::53
-odd\\007\\032name TXT "\\027[2J"
-"""
+ZONE = (DATA / "compare.zone").read_text()
 # A chain of 18 aliases, of which the proved reply follows 16; and a name of 251 octets, below which no name fits.
 LONG = ZONE + "".join(f"c{at} CNAME c{at + 1}\n" for at in range(18)) + "c18 A 192.0.2.18\n" + "a." * 120 + "b TXT a\n"
-
-
-class Right:
-    """Answers from a zone as RFC 1034 4.3.2 says, RFC 2308 for negative replies and RFC 4592 for wildcards."""
-
-    def __init__(self, text, origin="example."):
-        self.origin = dns.name.from_text(origin)
-        self.nodes = dns.zone.from_text(text, self.origin, relativize=False).nodes
-        self.names = {up for name in self.nodes for up in self.above(name)}
-
-    def above(self, name):
-        return [dns.name.Name(name.labels[at:]) for at in range(len(name.labels) - len(self.origin.labels) + 1)]
-
-    def rrset(self, owner, rtype, name=None):
-        rtype = dns.rdatatype.RdataType.make(rtype)
-        rdataset = owner in self.nodes and self.nodes[owner].get_rdataset(dns.rdataclass.IN, rtype)
-        return dns.rrset.from_rdata_list(name or owner, rdataset.ttl, rdataset) if rdataset else None
-
-    def source(self, name):
-        """The owner of the records of a name: the name, or the wildcard that covers it, or None."""
-        closest = next(up for up in self.above(name) if up in self.names)
-        star = dns.name.Name((b"*", *closest.labels))
-        return name if name == closest else star if star in self.names else None
-
-    def fill(self, reply):
-        name, rtype = reply.question[0].name, reply.question[0].rdtype
-        if not name.is_subdomain(self.origin):
-            reply.set_rcode(dns.rcode.REFUSED)
-            return
-        reply.flags |= AA
-        for _ in range(17):
-            cuts = [up for up in self.above(name) if up != self.origin and self.rrset(up, "NS")]
-            if cuts:
-                servers = self.rrset(cuts[-1], "NS")
-                reply.authority.append(servers)
-                self.addresses(reply, [rdata.target for rdata in servers])
-                reply.flags &= ~(0 if reply.answer else AA)
-                return
-            owner = self.source(name)
-            alias = owner and rtype not in (5, 255) and self.rrset(owner, "CNAME", name)
-            if not alias:
-                break
-            reply.answer.append(alias)
-            name = alias[0].target
-            if not name.is_subdomain(self.origin) or any(one.name == name for one in reply.answer):
-                return
-        else:
-            return
-        types = [one.rdtype for one in self.nodes.get(owner, ())] if rtype == 255 else [rtype]
-        found = [one for one in (self.rrset(owner, one, name) for one in types) if one] if owner else []
-        reply.answer += found
-        if not found:
-            soa = self.rrset(self.origin, "SOA")
-            soa.ttl = min(soa.ttl, soa[0].minimum)
-            reply.authority.append(soa)
-            reply.set_rcode(dns.rcode.NOERROR if owner else dns.rcode.NXDOMAIN)
-        self.addresses(reply, [rdata.target if one.rdtype == 2 else rdata.exchange
-                               for one in found if one.rdtype in (2, 15) for rdata in one])
-
-    def addresses(self, reply, targets):
-        reply.additional += [one for target in targets for one in (self.rrset(target, "A"), self.rrset(target, "AAAA")) if one]
 
 
 class Raw(bytes):
@@ -135,7 +51,7 @@ class Small:
     are the questions that came, and `changed` those whose replies were changed. `most` is the most that waited at once."""
 
     def __init__(self, text, wrong=None, host="127.0.0.1", origin="example.", edns=True, pause=0):
-        self.right, self.wrong, self.edns, self.pause = Right(text, origin), wrong, edns, pause
+        self.right, self.wrong, self.edns, self.pause = Server(text, origin, all_types=True), wrong, edns, pause
         self.asked, self.changed, self.now, self.most = [], set(), 0, 0
         family = socket.AF_INET6 if ":" in host else socket.AF_INET
         self.udp, self.other = (socket.socket(family, socket.SOCK_DGRAM) for _ in range(2))
@@ -162,11 +78,23 @@ class Small:
             reply.use_edns(False)
             reply.set_rcode(dns.rcode.FORMERR)
             return [reply.to_wire()]
-        self.right.fill(reply)
+        self.fill(reply)
         out = self.wrong(reply, *question, tcp) if self.wrong else None
         if out or out == b"":
             self.changed.add(question)
         return out if isinstance(out, list) else [out if isinstance(out, bytes) else reply.to_wire(max_size=65535)]
+
+    def fill(self, reply):
+        """Makes this the right reply."""
+        name, rtype = reply.question[0].name, reply.question[0].rdtype
+        if not name.is_subdomain(self.right.origin):
+            reply.set_rcode(dns.rcode.REFUSED)
+            return
+        sets, _, rcode, is_ours = self.right.sets(name, rtype)
+        reply.flags |= AA if is_ours else 0
+        reply.set_rcode(rcode)
+        for section, one in sets:
+            reply.sections[section].append(one)
 
     def over_udp(self):
         while True:
@@ -641,16 +569,13 @@ def test_progress_is_printed_on_a_terminal(programs):
 
 def test_zoneserve(programs, tmp_path):
     """--exact can't tell zoneserve from the proved reply; and 2,000 questions take at most 10 seconds of the processor."""
-    zone, address = tmp_path / "zone", Small(ZONE).address.replace("127.0.0.1", "127.0.0.2")
+    zone, (host, port) = tmp_path / "zone", ("127.0.0.2", Small(ZONE).port)
     zone.write_text(ZONE + "".join(f"h{at} A 192.0.2.{at}\nh{at} MX 5 h{at}\n*.d{at} TXT a\ne.f{at} CNAME h{at}\n" for at in range(200)))
-    with contextlib.ExitStack() as stack:
-        for transport in ("udp", "tcp"):
-            words = [programs / "zoneserve", transport, address, "1000000", "example", zone]
-            stack.callback(subprocess.Popen(words, stderr=subprocess.DEVNULL).kill)
-        time.sleep(0.5)
+    how = programs / "zoneserve", zone, "example", (host, int(port))
+    with Serving(how[0], "udp", *how[1:]), Serving(how[0], "tcp", *how[1:]):
         for options, least in (((), 2000), (("--tcp",), 200), (("--exact",), 200)):
             before = resource.getrusage(resource.RUSAGE_CHILDREN)
-            done = servers.run(COMPARE, "--rate", "0", "--questions", str(least), *options, "example", zone, address)
+            done = servers.run(COMPARE, "--rate", "0", "--questions", str(least), *options, "example", zone, f"{host}:{port}")
             after = resource.getrusage(resource.RUSAGE_CHILDREN)
             assert (done.returncode, done.stderr) == (0, "") and f"{least} questions of " in done.stdout
             assert after.ru_utime + after.ru_stime - before.ru_utime - before.ru_stime < 10
@@ -715,27 +640,7 @@ ZONES = [
     ("8.b.d.0.1.0.0.2.ip6.arpa", "examples/reverse-ipv6.zone", False), ("example.com", "examples/bind.zone", True),
     ("example", "tests/data/served.zone", False), ("sub.example", "tests/data/below.zone", False),
     ("example.com", "tests/data/example.com.zone", True), ("land-5.com", "tests/data/land-5.com.zone", True),
-    ("example", "hard.zone", False)]
-
-
-def hard():
-    """A zone of hard cases: long and circular aliases, wildcards of each kind, large sets, glue that is large or not required,
-    names of unusual octets, and types without a name."""
-    chain = [f"c{at} CNAME c{at + 1}" for at in range(1, 20)] + ["c20 A 192.0.2.20"]
-    aliases = ["r1 CNAME r2", "r2 CNAME r1", "self CNAME self", "away CNAME www.other.", "gone CNAME nowhere",
-               "deep CNAME h.cut", "covered CNAME q.w", "*.cn CNAME ns", "*.loop CNAME a.loop"]
-    wildcards = ['*.w TXT "any"', "*.w A 192.0.2.77", "*.w MX 10 ns", 'a.b.w TXT "x"', '*.e.f.g TXT "y"', "x.*.star A 192.0.2.3"]
-    cuts = [f"big.cut A 198.51.100.{at}" for at in range(1, 65)] + [
-        "cut NS big.cut", "cut NS ns.sib", "cut NS ns.other.", "sib NS ns.sib", "ns.sib A 192.0.2.9", "ns.sib AAAA 2001:db8::9",
-        "far NS ns.other."]
-    sets = [f"big A 198.51.100.{at}" for at in range(1, 65)] + [
-        "m MX 10 big", "m MX 20 x.w", "m MX 30 mx.other.", "_s._tcp SRV 1 2 53 ns", "_s._tcp SRV 0 0 0 .", 'h HINFO "a" ""',
-        "p PTR ns", f'udp TXT "{"a" * 255}" "{"a" * 216}"', "more TXT " + f'"{"a" * 255}" ' * 60, 'empty TXT ""', "null MX 0 .",
-        "low 60 A 192.0.2.60"]
-    names = [r'a\.b TXT "dot"', r"sp\032ace A 192.0.2.5", r'x\007y TXT "\000\255"', "UPPER A 192.0.2.6",
-             "a." * 100 + "long A 192.0.2.99", r"u TYPE65280 \# 3 abcdef"]
-    return "\n".join(["$TTL 3600", "@ SOA ns host 1 7200 900 1209600 300", "@ NS ns", "@ NS ns.other.", "ns A 192.0.2.1",
-                      "ns AAAA 2001:db8::1", *chain, *aliases, *wildcards, *cuts, *sets, *names, ""])
+    ("example", "tests/data/hard.zone", False)]
 
 
 GLUE_LACKS, ANSWER_LACKS, AUTHORITY_LACKS = (kind.format("lacks") for kind in (ADDITIONAL, ANSWER, AUTHORITY))
@@ -766,8 +671,7 @@ LISTED = {
 @pytest.mark.parametrize("origin, name, bind", ZONES, ids=[name for _, name, _ in ZONES])
 @pytest.mark.parametrize("row", ROWS)
 def test_others_differ_only_as_listed(programs, tmp_path, row, origin, name, bind, options):
-    file = tmp_path / name if name == "hard.zone" else TOP / name
-    (tmp_path / "hard.zone").write_text(hard())
+    file = TOP / name
     served = file if bind and row[0] == "named" else canonical(tmp_path, origin, file)
     words = [options, *["--bind"] * bind, origin, file, f"{OTHER[0]}:{OTHER[1]}"]
     with running(row, tmp_path, served, origin):

@@ -7,10 +7,13 @@ import re
 import subprocess
 import time
 from concurrent.futures import ThreadPoolExecutor
-from functools import lru_cache
 
 import dns.message
 import dns.name
+import dns.rdata
+import dns.rdataclass
+import dns.renderer
+import dns.rrset
 import dns.zone
 import plain_faults as plain
 import pytest
@@ -19,212 +22,159 @@ from servers import TOP
 ZONE = TOP / "tests" / "data" / "served.zone"
 ORIGIN = (b"example",)
 slow = pytest.mark.slow
-# For each type that has names in its data: the number of octets before the names, the number of names, and whether the names may
-# be compressed (RFC 1035 4.1.4, RFC 2782).
-NAMES = {2: (0, 1, True), 5: (0, 1, True), 6: (0, 2, True), 12: (0, 1, True), 15: (2, 1, True), 33: (6, 1, False)}
-# For each type whose targets get additional records: the offset of the target in the data.
-TARGETS = {2: 0, 15: 2, 33: 6}
-SECTIONS = "answer", "authority", "additional"
+NS, CNAME, SOA, SRV, ANY = 2, 5, 6, 33, 255
 
 
-# ---- a plain server: for each question it looks at all records, as RFC 1034 4.3.2 describes
-
-def records_of_zone():
-    """The records of the zone, each with its owner, type, TTL and data. Names are in lower case."""
-    zone = dns.zone.from_file(str(ZONE), "example.", relativize=False)
-    return [(folded(name.labels[:-1]), int(data.rdtype), ttl, data.to_digestable()) for name, ttl, data in zone.iterate_rdatas()]
-
-
-def folded(name):
-    return tuple(label.lower() for label in name)
-
-
-def is_below(name, other):
-    """Whether a name is equal to another or below it, ignoring the case of letters."""
-    return plain.is_below(folded(name), folded(other))
-
-
-def target(kind, data):
-    """The target of an NS, CNAME, MX or SRV record with this data."""
-    return plain.name_at(data, TARGETS.get(kind, 0))[0]
-
+# ---- a plain server: for each question it looks at all names, as RFC 1034 4.3.2 describes
 
 class Server:
-    def __init__(self, records):
-        self.records = records
+    """Answers for a zone that dnspython reads. A question for ANY gets the set of the lowest type, or all sets."""
 
-    @lru_cache(maxsize=None)
-    def at(self, name):
-        return [record for record in self.records if record[0] == name]
+    def __init__(self, text, origin="example.", all_types=False):
+        self.origin, self.all_types = dns.name.from_text(origin), all_types
+        self.nodes = dns.zone.from_text(text, self.origin, relativize=False).nodes
+        self.names = {up for name in self.nodes for up in self.above(name)}
 
-    def set_at(self, name, kind, owner=None):
-        found = sorted((record for record in self.at(folded(name)) if record[1] == kind), key=lambda record: record[3])
-        return [(owner or record[0], *record[1:]) for record in found]
+    def above(self, name):
+        """A name in the zone and the names above it, up to the origin."""
+        return [dns.name.Name(name.labels[at:]) for at in range(len(name.labels) - len(self.origin.labels) + 1)]
 
-    @lru_cache(maxsize=None)
-    def exists(self, name):
-        return any(is_below(record[0], name) for record in self.records)
+    def set_at(self, owner, kind, name=None):
+        """The set of a type at an owner, in canonical order, as the set of `name`; None if there is none."""
+        found = owner in self.nodes and self.nodes[owner].get_rdataset(dns.rdataclass.IN, kind)
+        return dns.rrset.from_rdata_list(name or owner.canonicalize(), found.ttl, sorted(found)) if found else None
 
     def cut(self, name):
-        """The zone cut at or above the name; if there are several, the one nearest to the origin; None if there is none."""
-        lower = folded(name)
-        above = (lower[len(lower) - labels:] for labels in range(len(ORIGIN) + 1, len(name) + 1))
-        return next((one for one in above if is_below(one, ORIGIN) and self.set_at(one, 2)), None)
+        """The zone cut at or above a name; if there are several, the one nearest to the origin."""
+        return ([up for up in self.above(name) if up != self.origin and self.set_at(up, NS)] or [None])[-1]
 
     def source(self, name):
         """The name whose records answer for a name: the name itself, the wildcard below its closest encloser, or None."""
-        lower = folded(name)
-        if self.exists(lower):
-            return lower
-        encloser = next((lower[at:] for at in range(1, len(lower) + 1) if self.exists(lower[at:])), None)
-        star = (b"*", *encloser) if encloser is not None else None
-        return star if star and self.exists(star) else None
+        closest = next(up for up in self.above(name) if up in self.names)
+        star = dns.name.Name((b"*", *closest.labels)) if name != closest else name
+        return star if star in self.names else None
 
-    def alias(self, name):
-        source = None if self.cut(name) else self.source(name)
-        return self.set_at(source, 5, name) if source is not None else []
-
-    def sought(self, name, kind):
-        """The name of the question, and the names to which aliases lead from it, in order. At most 16 aliases are followed."""
-        names = [name]
-        while kind not in (5, 255) and len(names) < 17:
-            alias = self.alias(names[-1])
-            led = target(5, alias[0][3]) if alias else None
-            if not alias or not is_below(led, ORIGIN) or any(folded(led) == folded(other) for other in names):
+    def aliases(self, name, kind):
+        """The sets of the aliases that lead from a name, in order, and the last name. At most 16 aliases are followed."""
+        sets = []
+        while kind not in (CNAME, ANY) and not self.cut(name) and (alias := self.set_at(self.source(name), CNAME, name)):
+            sets.append(alias)
+            led = alias[0].target
+            if len(sets) == 17 or not led.is_subdomain(self.origin) or any(one.name == led for one in sets):
                 break
-            names.append(led)
-        return names
+            name = led
+        return sets, name
 
     def outcome(self, name, kind):
         """The RCODE, the zone cut if the reply is a referral, the answer sets, and the authority sets."""
-        names = self.sought(name, kind)
-        aliases = [] if kind in (5, 255) else [("answer", alias) for alias in map(self.alias, names) if alias]
-        last = names[-1]
+        aliases, last = self.aliases(name, kind)
         cut, source = self.cut(last), self.source(last)
         if cut:
-            return 0, cut, aliases, [("authority", self.set_at(cut, 2))]
-        soa = [("authority", [(*record[:2], min(record[2], int.from_bytes(record[3][-4:], "big")), record[3])
-                              for record in self.set_at(ORIGIN, 6)])]
-        if source is None:
-            return 3, None, aliases, soa
-        if kind not in (5, 255) and self.set_at(source, 5):
+            return 0, cut, aliases, [self.set_at(cut, NS)]
+        if source and kind != ANY and kind != CNAME and self.set_at(source, CNAME):
             return 0, None, aliases, []
-        asked = min((record[1] for record in self.at(source)), default=0) if kind == 255 else kind
-        records = self.set_at(source, asked, last)
-        return 0, None, aliases + ([("answer", records)] if records else []), [] if records else soa
+        kinds = sorted(one.rdtype for one in self.nodes.get(source, ())) if kind == ANY else [kind]
+        found = [one for one in (self.set_at(source, one, last) for one in kinds) if one]
+        soa = self.set_at(self.origin, SOA)
+        soa.ttl = min(soa.ttl, soa[0].minimum)
+        found = found if self.all_types else found[:1]
+        return 0 if source else 3, None, aliases + found, [] if found else [soa]
 
     def sets(self, name, kind):
-        """All sets of a reply in order, the number of leading sets without which it is truncated, its RCODE, and whether it is
-        authoritative."""
+        """All sets of a reply, each with its section; the number of leading sets without which it is truncated; its RCODE; and
+        whether it is authoritative."""
         rcode, cut, answers, authorities = self.outcome(name, kind)
-        found = answers + authorities
-        asked = [target(*record[1::2]) for _, records in answers for record in records if record[1] in TARGETS]
-        below = [target(*record[1::2]) for _, records in authorities for record in records if record[1] in TARGETS]
-        inside = [name for name in below if cut and is_below(name, cut)]
+        found = [*((1, one) for one in answers), *((2, one) for one in authorities)]
+        asked, below = ([target for one in sets for target in targets(one)] for sets in (answers, authorities))
+        inside = [name for name in below if cut and name.is_subdomain(cut)]
+        outside = [name for name in below if cut and not name.is_subdomain(cut)]
         required = len(found + self.extra(found, inside))
-        outside = [name for name in below if cut and not is_below(name, cut)]
         return found + self.extra(found, asked + inside + outside), required, rcode, not (cut and not answers)
 
     def extra(self, earlier, names):
         """The address sets of these names for the additional section, except sets that are in the reply already."""
         more = []
         for name, kind in itertools.product(names, (1, 28)):
-            present = (record for _, records in earlier + more for record in records)
-            is_present = any(record[0] and folded(record[0]) == folded(name) and record[1] == kind for record in present)
-            records = [] if is_present else self.set_at(name, kind)
-            more += [("additional", records)] if records else []
+            is_present = any(one.name == name and one.rdtype == kind for _, one in earlier + more)
+            found = None if is_present else self.set_at(name, kind)
+            more += [(3, found)] if found else []
         return more
 
 
-# ---- a reply in octets: to compress a name, it searches all names written before
-
-def put_name(out, names, name):
-    """Writes a name. Its longest suffix that an earlier name has, at an offset that a pointer can give, is written as a
-    pointer."""
-    place, written = len(out), b""
-    for at in range(len(name)):
-        suffix = name[at:]
-        found = next(((other, start) for other, start in names if plain.is_below(other, suffix)), None)
-        shared = found[1] + len(plain.wire(found[0])) - len(plain.wire(suffix)) if found else None
-        if shared is not None and shared <= 16383:
-            written += (0xC000 + shared).to_bytes(2, "big")
-            break
-        written += bytes([len(name[at])]) + name[at]
-    else:
-        written += b"\0"
-    names.append((name, place))
-    out += written
+def targets(one):
+    """The names for which the records of a set get additional records."""
+    return [record.exchange if one.rdtype == 15 else record.target for record in one if one.rdtype in (NS, 15, SRV)]
 
 
-def put_record(out, names, record):
-    owner, kind, ttl, data = record
-    put_name(out, names, owner)
-    out += kind.to_bytes(2, "big") + b"\0\1" + ttl.to_bytes(4, "big") + b"\0\0"
-    begun, at = len(out), 0
-    before, count, is_shared = NAMES.get(kind, (0, 0, False))
-    if is_shared:
-        out += data[:before]
-        at = before
-        for _ in range(count):
-            name, at = plain.name_at(data, at)
-            put_name(out, names, name)
-    out += data[at:]
-    out[begun - 2:begun] = (len(out) - begun).to_bytes(2, "big")
+class Exactly(dict):
+    """The offsets of the names that were written before. Names that differ in the case of a letter are different."""
+
+    def get(self, name, default=None):
+        return super().get(name.labels, default)
+
+    def __setitem__(self, name, place):
+        super().__setitem__(name.labels, place)
 
 
-def message(head, flags, question, sets):
-    counts = [1 if question else 0, *(sum(len(records) for place, records in sets if place == one) for one in SECTIONS)]
-    out, names = bytearray(head + b"".join(number.to_bytes(2, "big") for number in (flags, *counts))), []
+def message(number, flags, question, sets):
+    out = dns.renderer.Renderer(number, flags)
+    out.compress = Exactly()
     if question:
-        names.append((question[0], 12))
-        out += plain.wire(question[0]) + question[1]
-    for _, records in sets:
-        for record in records:
-            put_record(out, names, record)
-    return bytes(out)
+        out.add_question(*question)
+    for section, one in sets:
+        # The target of an SRV record is not compressed (RFC 2782).
+        if one.rdtype == SRV:
+            plain_data = [dns.rdata.GenericRdata(one.rdclass, SRV, record.to_wire()) for record in one]
+            one = dns.rrset.from_rdata_list(one.name, one.ttl, plain_data)
+        out.add_rrset(section, one, want_shuffle=False)
+    out.write_header()
+    return out.get_wire()
 
 
 def question_of(datagram):
-    """The name of the question, and its type and class as four octets; None unless exactly one question, whose name is written
-    without pointers, follows the header."""
+    """The name, the type and the class of the question; None unless exactly one question, whose name is written without pointers,
+    follows the header."""
     name, end = plain.name_at(datagram, 12) if datagram[4:12] == b"\0\1\0\0\0\0\0\0" else (None, 0)
-    return None if name is None or len(datagram) != end + 4 else (name, datagram[end:])
+    if name is None or len(datagram) != end + 4:
+        return None
+    return dns.name.Name((*name, b"")), *(int.from_bytes(datagram[at:at + 2], "big") for at in (end, end + 2))
 
 
 def reply(server, datagram, limit):
     datagram = datagram[:512]
     if len(datagram) < 12 or datagram[2] & 0x80:
         return None
-    head, flags = datagram[:2], 0x8000 | (datagram[2] & 0x79) << 8
+    number, flags = int.from_bytes(datagram[:2], "big"), 0x8000 | (datagram[2] & 0x79) << 8
     if datagram[2] & 0x78:
-        return message(head, flags | 4, None, [])
+        return message(number, flags | 4, None, [])
     question = question_of(datagram)
     if question is None:
-        return message(head, flags | 1, None, [])
-    name, kind = question[0], int.from_bytes(question[1][:2], "big")
-    if question[1][2:] != b"\0\1":
-        return message(head, flags | 5, question, [])
+        return message(number, flags | 1, None, [])
+    name, kind, rdclass = question
+    if rdclass != 1:
+        return message(number, flags | 5, question, [])
     if kind in (0, 41) or 128 <= kind <= 254:
-        return message(head, flags | 4, question, [])
-    if not is_below(name, ORIGIN):
-        return message(head, flags | 5, question, [])
+        return message(number, flags | 4, question, [])
+    if not name.is_subdomain(server.origin):
+        return message(number, flags | 5, question, [])
     sets, required, rcode, is_ours = server.sets(name, kind)
     kept = len(sets)
-    while len(message(head, 0, question, sets[:kept])) > limit:
+    while len(message(number, 0, question, sets[:kept])) > limit:
         kept -= 1
     flags |= rcode | (0x400 if is_ours else 0) | (0x200 if kept < required else 0)
-    return message(head, flags, question, sets[:kept])
+    return message(number, flags, question, sets[:kept])
 
 
 # ---- datagrams
 
-def queries(records):
+def queries(server):
     """A query for each type of the zone, and for types 255 and 99, at each of its names and at some others."""
-    names = {record[0] for record in records}
+    names = {name.labels[:-1] for name in server.names if name in server.nodes}
     names |= {(b"x", *name) for name in names} | {(b"*", b"wild", b"example"), (b"Www", b"eXample"), (b"other",), (),
                                                   (b"a" * 63,) * 3 + ORIGIN}
-    kinds = sorted({record[1] for record in records}) + [255, 99]
-    return [dns.message.make_query(dns.name.Name((*name, b"")), kind, id=0x1234).to_wire() for name in sorted(names) for kind in kinds]
+    kinds = [*sorted({int(one.rdtype) for node in server.nodes.values() for one in node}), ANY, 99]
+    names = [dns.name.Name((*name, b"")) for name in sorted(names)]
+    return [dns.message.make_query(name, kind, id=0x1234).to_wire() for name in names for kind in kinds]
 
 
 def changed_query(chance, query):
@@ -252,8 +202,8 @@ def changed_query(chance, query):
 @pytest.mark.parametrize("words, limit", [([], 512), (["--tcp"], 65_535)], ids=["udp", "tcp"])
 def test_datagrams(programs, tmp_path, words, limit, count):
     """`zoneserve once` gives each of count/2 datagrams the reply of the plain server, octet for octet."""
-    chance, records = random.Random(limit), records_of_zone()
-    server, asked, replies = Server(records), queries(records), 0
+    chance, server, replies = random.Random(limit), Server(ZONE.read_text()), 0
+    asked = queries(server)
     datagrams = [changed_query(chance, chance.choice(asked)) for _ in range(count // 2)]
     given = tmp_path / "given"
     given.write_text("".join(datagram.hex() + "\n" for datagram in datagrams))
