@@ -583,7 +583,7 @@ def test_zoneserve(programs, tmp_path):
 
 # ---- other servers
 
-OTHER = ("127.0.0.1", 5399)
+OTHER = ("127.0.0.1", 5389)
 # These may reply otherwise than zoneserve to ANY (RFC 8482) and to a type that is not for data, and BIND does so to a loop of
 # aliases.
 OTHERWISE = {"example. ANY", "www.example. TYPE250", "loop.example. A"}

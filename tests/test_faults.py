@@ -36,45 +36,6 @@ a\.b 7 IN TXT hi "x;y"
 # A name error reply. The owner of its SOA record is a pointer, and the two names in the record's data end in pointers.
 NAME_ERROR = (b"123484030001000000010000046e6f7065076578616d706c650000010001c011000600010000012c0026"
               b"026e73c0110a686f73746d6173746572c0110000000100001c2000000384001275000000012c\n")
-# A preloaded allocator that refuses request REFUSE to `malloc` or `realloc`, counted from 1; with a plus after the number, all
-# later requests too. When a request is refused, the file REFUSED is created.
-REFUSING = r"""
-#define _GNU_SOURCE
-#include <dlfcn.h>
-#include <errno.h>
-#include <fcntl.h>
-#include <stdlib.h>
-#include <string.h>
-#include <unistd.h>
-
-static int is_refused(void)
-{
-    static long number;
-    const char *wanted = getenv("REFUSE"), *mark = getenv("REFUSED");
-    if (!wanted || ++number < atol(wanted) || (number > atol(wanted) && !strchr(wanted, '+')))
-        return 0;
-    if (mark)
-        close(open(mark, O_CREAT | O_WRONLY, 0600));
-    errno = ENOMEM;
-    return 1;
-}
-
-void *malloc(size_t size)
-{
-    static void *(*real)(size_t);
-    if (!real)
-        *(void **)&real = dlsym(RTLD_NEXT, "malloc");
-    return is_refused() ? NULL : real(size);
-}
-
-void *realloc(void *old, size_t size)
-{
-    static void *(*real)(void *, size_t);
-    if (!real)
-        *(void **)&real = dlsym(RTLD_NEXT, "realloc");
-    return is_refused() ? NULL : real(old, size);
-}
-"""
 
 
 class Case:
@@ -128,10 +89,9 @@ def case(request, programs, folder):
 
 @pytest.fixture(scope="module")
 def refusing(folder):
-    """Gives the environment that makes an allocation fail, and a file that is created when that happens."""
+    """Gives the environment that makes an allocation fail, and a file that is created when that happens (tests/data/refuse.c)."""
     device, mark = folder / "refuse.so", folder / "refused"
-    (folder / "refuse.c").write_text(REFUSING)
-    subprocess.run(["cc", "-shared", "-fPIC", "-O1", "-o", device, folder / "refuse.c"], check=True)
+    subprocess.run(["cc", "-shared", "-fPIC", "-O1", "-o", device, TOP / "tests" / "data" / "refuse.c"], check=True)
 
     def refusing(number):
         mark.unlink(missing_ok=True)

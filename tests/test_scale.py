@@ -16,7 +16,7 @@ import pytest
 from servers import TOP, Steady, Workers, run, until
 
 pytestmark = [pytest.mark.slow, pytest.mark.root, pytest.mark.peers("ip", "dig")]
-CONTRIB = TOP / "contrib"
+CONTRIB, DATA = TOP / "contrib", TOP / "tests" / "data"
 ZONE = "$TTL 60\n@ SOA ns h {} 2 3 4 5\n@ NS ns\nns A 192.0.2.1\nwww A 192.0.2.2\n"
 NEW_NETWORK = 0x40000000
 
@@ -165,23 +165,6 @@ def test_further_settings_of_dnsdist(services, tmp_path):
 
 # ---- a hidden primary
 
-NSD = """server:
-    username: ""
-    chroot: ""
-    pidfile: "{folder}/nsd.pid"
-    xfrdfile: "{folder}/xfrd.state"
-    xfrdir: "{folder}"
-    zonelistfile: "{folder}/zone.list"
-"""
-KNOT = {
-    "server": {"rundir": "{folder}", "listen": "203.0.113.53@53"},
-    "database": {"storage": "{folder}/knot"},
-    "key": {"- id": "provider", "  algorithm": "hmac-sha256", "  secret": "{key}"},
-    "remote": {"- id": "primary", "  address": "192.0.2.10", "  via": "203.0.113.53", "  key": "provider"},
-    "acl": {"- id": "notify", "  address": "192.0.2.10", "  key": "provider", "  action": "notify"},
-    "zone": {"- domain": "example.com", "  storage": "{folder}/knot", "  master": "primary", "  acl": "notify"}}
-
-
 @pytest.mark.peers("nsd", "nsd-control", "knotd")
 def test_a_hidden_primary(network, tmp_path):
     """NSD has the settings of contrib/hidden-nsd.conf. Knot transfers the zone that zonedeploy wrote, and again after a deploy."""
@@ -195,10 +178,10 @@ def test_a_hidden_primary(network, tmp_path):
         return said.endswith(f" {serial} 2 3 4 5\n")
     network.host("one", "192.0.2.10/32", "203.0.113.53/32")
     key, conf = base64.b64encode(os.urandom(32)).decode(), tmp_path / "nsd.conf"
-    text = (CONTRIB / "hidden-nsd.conf").read_text().replace("THE KEY", key)
-    conf.write_text(re.sub("/var/lib/mitrehyssop|/run/nsd", str(tmp_path), text) + NSD.format(folder=tmp_path))
-    text = "".join("".join([f"{name}:\n", *(f"  {key}: {value}\n" for key, value in values.items())]) for name, values in KNOT.items())
-    (tmp_path / "knot.conf").write_text(text.format(folder=tmp_path, key=key))
+    text = (CONTRIB / "hidden-nsd.conf").read_text() + (DATA / "hidden-nsd.more").read_text()
+    conf.write_text(re.sub("/var/lib/mitrehyssop|/run/nsd|FOLDER", str(tmp_path), text.replace("THE KEY", key)))
+    text = (DATA / "hidden-knot.conf").read_text().replace("FOLDER", str(tmp_path)).replace("THE KEY", key)
+    (tmp_path / "knot.conf").write_text(text)
     (tmp_path / "knot").mkdir()
     with network.within("one"):
         deploy(1, "true")
@@ -212,18 +195,6 @@ def test_a_hidden_primary(network, tmp_path):
 
 # ---- three hosts that announce one address
 
-ROUTER = """router id 198.51.100.1;
-protocol device { scan time 10; }
-protocol kernel { ipv4 { export filter { if source = RTS_BGP then accept; reject; }; }; merge paths on limit 8; }
-protocol bfd { interface "rt" { interval 100 ms; multiplier 3; }; }
-template bgp host {
-    local 198.51.100.1 as 65000; hold time 9; keepalive time 3; connect retry time 5; error wait time 1, 10; bfd on;
-    ipv4 { import where net = 192.0.2.53/32; export none; };
-}
-protocol bgp h1 from host { neighbor 198.51.100.11 as 65001; }
-protocol bgp h2 from host { neighbor 198.51.100.12 as 65001; }
-protocol bgp h3 from host { neighbor 198.51.100.13 as 65001; }
-"""
 # For zonedeploy-to: an ssh and a dig that reach the hosts of this test, and a systemctl that reloads the workers of a host.
 COMMANDS = {
     "ssh": """folder=FOLDER/$1 said=${2//\\/var\\/lib\\/mitrehyssop\\/example.com/$folder}
@@ -254,7 +225,7 @@ class Anycast:
         network.ip("c", "addr add 203.0.113.2/24 dev eth0", "link set eth0 up", "route add default via 203.0.113.1")
         with network.within("r"):
             run("sysctl", "-qw", "net.ipv4.ip_forward=1", "net.ipv4.fib_multipath_hash_policy=1")
-        self.bird("r", ROUTER)
+        self.bird("r", (DATA / "router.conf").read_text())
         self.write(1)
         for host in "123":
             text = run("zonecheck", "--print", "example.com", folder / "zone").stdout
