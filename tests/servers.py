@@ -29,13 +29,6 @@ def questions():
     return [(block[0], block[1], sorted(map(str.lower, block[2:]))) for block in blocks if block]
 
 
-def records_of(reply):
-    """The records of a message of dnspython in the form of that table."""
-    lines = [f"{section} {line}" for section, sets in zip(("answer", "authority", "additional"), reply.sections[1:])
-             for one in sets for line in one.to_text().split("\n")]
-    return sorted(line.replace(" IN ", " ", 1).lower() for line in lines)
-
-
 def run(*words, **how):
     """Runs a program, and returns its status and what it prints."""
     return subprocess.run([str(word) for word in words], **{"capture_output": True, "text": True, "timeout": 900, **how})

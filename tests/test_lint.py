@@ -25,8 +25,9 @@ GOOD = "$TTL 1h\n@ SOA ns h 2026112301 2h 15m 2w 1h\n@ NS ns\n@ NS ns.example.ne
 SERVED = "$TTL 60\n@ SOA ns h 1 60 5 600 60\n@ NS ns\n@ NS ns.example.net.\nns A 192.0.2.1\n"
 FAULTY = (TOP / "examples" / "faulty.zone").read_text()
 # `lines`: for each fault its code, a part of zonelint's message, the faulty lines that are added to a good zone, and the lines
-# corrected as the message or docs/CODES.md says. `files`: a code, a faulty file, and the corrected one. `reports`: a file, and
-# all faults that zonelint reports, each with its line.
+# corrected as the message or docs/CODES.md says. `files`: a code, a faulty file, and the corrected one. `reports`: a file, and all faults
+# that zonelint reports, each with its line. `bind`: lines in BIND's form, and the code of what is wrong. `says`: the same, and a part
+# of the message. `together`: mistakes that are not made in one zone, since in one RRset or on one line they make other faults.
 CASES = json.loads((DATA / "faults.json").read_text())
 
 
@@ -102,12 +103,6 @@ def mistaken(sound, *cases):
     return "\n".join([*(line for line in sound if line not in out), *(line for case in cases for line in case[3]), ""])
 
 
-# Pairs that are left out: two mistakes in one RRset or on one line make other faults together.
-TOGETHER = [("no TTL", "two TTLs"), ("no SOA", "two SOA"), ("directive", "SPF texts"), ("not closed", "not opened"),
-            ("NS record", "server"), ("one server", "server"), ("both servers", "server"), ("SOA", "SOA"), ("serial", "SOA"),
-            ("two SOA", " time"), ("two SOA", "negative"), ("no NS", "glue"), ("servers", "glue"), ("one server", "glue")]
-
-
 def test_mistakes_alone_and_in_pairs(lint):
     """In a zone with two mistakes, all messages for either one alone are given too."""
     def found(zones):
@@ -121,7 +116,7 @@ def test_mistakes_alone_and_in_pairs(lint):
 
     def belong(one, other):
         named = [f"{case[1]} {case[0]}" for case in (one, other)]
-        return any(x in named[0] and y in named[1] or y in named[0] and x in named[1] for x, y in TOGETHER) or one[2] and other[2]
+        return any(x in named[0] and y in named[1] or y in named[0] and x in named[1] for x, y in CASES["together"]) or one[2] and other[2]
 
     sound, cases = mistakes()
     assert found([mistaken(sound)]) == [set()]
@@ -401,14 +396,7 @@ def test_what_only_other_servers_serve_is_noted(lint):
     assert lint("--strict", "--error", "N02", "example", "z")[0] == 1
 
 
-@pytest.mark.parametrize("line, code", [
-    ("h SSHFP 1 1 aabb", "R11"), ('n NAPTR 1 1 "u" "E2U+sip" "!^.*$!sip:a@b" .', "R11"),
-    ('n NAPTR 1 1 "u" "E2U+sip" "!^(.*$!sip:a@b!" .', "R11"), ('n NAPTR 1 1 "u" "E2U+sip" "!^.*$!\\\\1!" .', "R11"),
-    ('n NAPTR 1 1 "u" "E2U+sip" "!^.*\\000$!a!" .', "R11"), ("_h._tcp URI 1 1 https://x/", "R11"),
-    ('@ CAA 0 "issue" "x"', "R11"), ("x X25 abc", "R11"), ("x NSAP 0x123", "R11"), ("_25._tcp TLSA 3 1 1 aabb", "W59"),
-    ('@ CAA 0 iodef "security@example.com"', "W58"), ('t TXT "v=spf1 ip4:192.0.2.1 +all"', "W56"),
-    ('_dmarc TXT "v=DMARC1; p=block"', "W57"), ("h A 127.0.0.1", "W48"), ("_s._tcp SRV 1 1 0 ns", "W38"),
-    ("_s._tpc SRV 1 1 5 ns", "W36"), ("x CNAME ns.example.example.", "W31")])
+@pytest.mark.parametrize("line, code", CASES["bind"])
 def test_no_false_ok(lint, line, code):
     _, found, said = lint("example", "z", text=GOOD + line + "\n")
     assert (code, 6) in found, said
@@ -526,11 +514,7 @@ def test_what_nsd_and_knot_do_not_read(lint, line):
     assert ("K01", 6) in lint("--server", "knot", "example", "z")[1]
 
 
-@pytest.mark.parametrize("line, says", [
-    ("$TTL 1 hour", "write $TTL 3600"), ("$ORIGIN = x.", "write $ORIGIN x."), ("h A ::ffff:192.0.2.9", "write 192.0.2.9"),
-    ("h TXT ( \"a\" ; minimum )", "write it before the ;"), ("@ MX 10mail", "write MX 10 mail"),
-    ("@ NS ns1 ns2", "a record for each"), ("@ MX 10 a 20 b", "a record for each"), ("h HNFO a b", "write HINFO"),
-    ("h CDNSKY 1 2 3 aaaa", "write CDNSKEY"), ("@ CNAME a b", "a comment begins with ;")])
+@pytest.mark.parametrize("line, says", CASES["says"])
 def test_remedies(lint, line, says):
     assert says in lint("example", "z", text=GOOD + line + "\n")[2]
 

@@ -1,4 +1,5 @@
 """Wrong calls, files and outputs of the built programs; and what a caller of the libraries must not do, or no test would notice."""
+import json
 import os
 import re
 import shutil
@@ -7,43 +8,15 @@ import subprocess
 import pytest
 from servers import TOP, run
 
-LOADED, FAULTS = "zone example/IN: loaded serial 1\nOK\n", "example. Z10\nexample. Z11\nwww.example. Z06\n"
-# For each program, its calls in examples/: the status, what is written to each stream, and the words.
-CALLS = {
-    "zonecheck": [
-        (0, LOADED, "", "example example.zone"), (0, LOADED, "", "EXAMPLE. example.zone"), (0, "", "", "--quiet example example.zone"),
-        (1, FAULTS, "", "example faulty.zone"), (1, FAULTS, "", "--print example faulty.zone"),
-        (1, FAULTS, "", "--print --quiet example faulty.zone"), (1, "", "", "--quiet example faulty.zone"),
-        *((2, "", "usage\n", words) for words in [
-            "", "example", "example example.zone more", "--quiet --quiet example example.zone",
-            "--print --print example example.zone", "--verbose example example.zone", "-q example example.zone",
-            "--quiet=1 example example.zone", "example --print example.zone", "example example.zone --print",
-            "-- example example.zone", "--help", "example -"]),
-        # An invalid origin is reported before a missing file.
-        (2, "", "bad origin\n", "a..b nowhere.zone"), (2, "", "bad origin\n", " nowhere.zone"),
-        (2, "", "bad origin\n", f"{'a' * 64} example.zone"), (2, "", "R16\n", "example nowhere.zone"),
-        (2, "", "R16\n", "--quiet example nowhere.zone"), (2, "", "R16\n", "example .")],
-    "zoneserve": [
-        (0, "", "", "once example example.zone"), (1, "", FAULTS, "once example faulty.zone"),
-        (1, "", "line 2: R13\n", "once example FOLDER/mapped.zone"), (1, "", "line 1: R03\n", "once example FOLDER/open.zone"),
-        (2, "", "R16\n", "once example nowhere.zone"), (2, "", "bad origin\n", "once a..b nowhere.zone"),
-        (2, "", "usage\n", "once example"),
-        # `--` is an address that can't be used, and is judged after the origin, the file and the zone.
-        (2, "", "bind\n", "udp -- 1 example example.zone"), (2, "", "R16\n", "tcp -- 1 example nowhere.zone")],
-    # It checks arguments, origin, file and zone before the socket, which standard input is not.
-    "zonesocket": [
-        *((2, "", "usage\n", words) for words in [
-            "", "udp 1 example", "once 1 example example.zone", "udp 0 example example.zone", "tcp 01 example example.zone",
-            "tcp 1000001 example example.zone", "udp 1 example -", "udp 1 example example.zone more"]),
-        (2, "", "bad origin\n", "udp 1 a..b nowhere.zone"), (2, "", "R16\n", "tcp 1 example nowhere.zone"),
-        (1, "", FAULTS, "tcp 1 example faulty.zone"), (2, "", "bind\n", "udp 1 example example.zone"),
-        (2, "", "bind\n", "tcp 1 example example.zone")],
-}
-EXAMPLES = TOP / "examples"
+EXAMPLES, DATA = TOP / "examples", TOP / "tests" / "data"
+# For each program, its calls in examples/, in which FOLDER is a folder with faulty zones: the words, the status, and what is written to
+# each stream. zonesocket gets no socket.
+CALLS = json.loads((DATA / "calls.json").read_text())
+LOADED = "zone example/IN: loaded serial 1\nOK\n"
 
 
-@pytest.mark.parametrize("program, status, output, errors, words", [(name, *row) for name, rows in CALLS.items() for row in rows])
-def test_a_call(programs, tmp_path, program, status, output, errors, words):
+@pytest.mark.parametrize("program, words, status, output, errors", [(name, *row) for name, rows in CALLS.items() for row in rows])
+def test_a_call(programs, tmp_path, program, words, status, output, errors):
     (tmp_path / "mapped.zone").write_text("$TTL 5\n@ AAAA ::192.0.2.1\n")
     (tmp_path / "open.zone").write_text('@ NS "')
     words = words.replace("FOLDER", str(tmp_path)).split(" ") if words else []
@@ -92,39 +65,12 @@ pub fn lent<'z>(zone: &'z Zone, steps: &mut Steps<'z>, node: &Node<'z>) -> u32 {
     %s
 }
 """
-# The error, and no other, for a caller of a walk (`Steps` of `dns_zone`, which counts the nodes that it reaches) that ends with
-# an expression.
-REFUSED = [
-    # A walk is neither cloned nor copied.
-    ("unknown-method", "own.clone().visits()"),
-    ("move-out-of-place", "{ let copy = *steps; copy.visits() }"),
-    ("borrow-e0382", "{ let other = own; own.visits() + other.visits() }"),
-    # Neither a walk nor a node gives a zone, which would allow a second walk.
-    ("private-field", "{ let tree = steps.tree; 0 }"),
-    ("unknown-method", "Steps::new(steps.zone()).visits()"),
-    ("private-field", "{ let tree = node.tree; 0 }"),
-    ("unknown-method", "Steps::new(node.zone()).visits()"),
-    ("mismatched-types", "Steps::new(steps).visits()"),
-    # Neither can be constructed, and no count can be reset.
-    ("private-field", "{ let made = Steps { tree: node.tree, counts: steps.counts }; made.visits() }"),
-    ("private-field", "{ let made = Node { tree: node.tree, row: node.row }; 0 }"),
-    ("private-field", "{ steps.counts = own.counts; 0 }"),
-    ("unknown-method", "{ let made = Node::of_origin(zone); 0 }"),
-]
-KEY = "        let key = LabelKey::of(label);"
-# Expressions that are refused as `private-field` even in dns_zone: the file, the expression, and the line before which it is put.
-# Neither a walk nor a node reaches an allocator. The search for a child reaches no row, record or key of the tree, and makes or
-# resets no count.
-WITHIN = [
-    ("steps.rt", "self.tree.zone.records.items.allocator()", "        self.counts.count_visit();"),
-    ("node.rt", "self.tree.rows.items.allocator()", "        let own = self.own();"),
-    ("search.rt", "self.tree.rows.lent()", "        let kids = self.kids();"),
-    ("search.rt", "steps.tree.rows.lent()", "        let kids = self.kids();"),
-    ("search.rt", "kids.rows[0].key.front", KEY),
-    ("search.rt", "kids.tree.zone.records()", KEY),
-    ("search.rt", "Counts { visits: 0, comparisons: 0 }", KEY),
-    ("search.rt", "{ counts.comparisons = 0; 0 }", KEY),
-]
+# `caller`: the error, and no other, for a caller of a walk (`Steps` of dns_zone, which counts the nodes that it reaches) that ends with
+# an expression. A walk is not cloned or copied; neither a walk nor a node gives a zone, which would allow a second walk; neither can
+# be constructed; and no count can be reset. `within`: expressions that are refused as `private-field` even in dns_zone, each with its
+# file and the line before which it is put. Neither a walk nor a node reaches an allocator; the search for a child reaches no row,
+# record or key of the tree, and makes or resets no count. `bodies`: see below.
+MISUSE = json.loads((DATA / "misuse.json").read_text())
 
 
 @pytest.fixture(scope="module")
@@ -154,7 +100,7 @@ def errors_of(crate):
 
 @pytest.mark.slow
 @pytest.mark.peers("rt")
-@pytest.mark.parametrize("error, expression", [(None, "if named { own.visits() } else { steps.visits() }"), *REFUSED])
+@pytest.mark.parametrize("error, expression", [(None, "if named { own.visits() } else { steps.visits() }"), *MISUSE["caller"]])
 def test_misuse_of_a_walk(zone_library, error, expression):
     (zone_library / "caller" / "src" / "lib.rt").write_text(CALLER % expression)
     assert errors_of(zone_library / "caller") == (error and {error})
@@ -162,7 +108,7 @@ def test_misuse_of_a_walk(zone_library, error, expression):
 
 @pytest.mark.slow
 @pytest.mark.peers("rt")
-@pytest.mark.parametrize("file, expression, line", WITHIN)
+@pytest.mark.parametrize("file, expression, line", MISUSE["within"])
 def test_misuse_of_a_tree(zone_library, file, expression, line):
     source = zone_library / "dns_zone" / "src" / "tree" / file
     text = source.read_text()
@@ -179,22 +125,9 @@ def test_misuse_of_a_tree(zone_library, file, expression, line):
 # No contract rejects such a body, because a contract can't state when memory is available. So they can't be must-fail edits. For
 # each: the file, a text that occurs there once, the text that replaces it, the crate of tests, the modules of tests that are run
 # (without proofs), and the test that must fail.
-BODIES = [
-    ("dns_tools/src/load.rt", "        Ok(zone) => Ok(zone),\n", "        Ok(_zone) => Err(LoadFault::Stopped(Stop::Memory)),\n",
-     "dns_tools_tests", ["load"], "load::the_sample_file"),
-    ("dns_tools/src/check.rt", "            let outcome = report_zone(flags, &zone, sink);\n",
-     "            let outcome = Err(Stop::Memory);\n", "dns_tools_tests", ["check", "devices", "load"], "check::a_zone_that_passes"),
-    ("dns_tools/src/message.rt", "    print_octets(alloc, &room[..len], sink)\n", "    let _len = len;\n    Err(Stop::Memory)\n",
-     "dns_tools_tests", ["devices", "message"], "message::the_first_line_alone"),
-    ("dns_zone/src/store.rt", "            return Err(BuildFault::Faults(found));\n        }\n",
-     "            return Err(BuildFault::Faults(found));\n        }\n        if !records.is_empty() {\n"
-     "            return Err(BuildFault::NoMemory);\n        }\n", "dns_zone_tests", ["building"], "building::origins_and_serials"),
-]
-
-
 @pytest.mark.slow
 @pytest.mark.peers("rt")
-@pytest.mark.parametrize("file, old, new, tests, modules, test", BODIES, ids=[body[-1] for body in BODIES])
+@pytest.mark.parametrize("file, old, new, tests, modules, test", MISUSE["bodies"], ids=[body[-1] for body in MISUSE["bodies"]])
 def test_a_wrong_body_is_noticed(tmp_path, file, old, new, tests, modules, test):
     crates = tmp_path / "crates"
     shutil.copytree(TOP / "crates", crates, ignore=shutil.ignore_patterns("out"))
