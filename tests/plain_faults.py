@@ -1,18 +1,19 @@
 #!/usr/bin/python3
-"""Prints all faults of a zone file as `zonefaults` does, `tests/plain_faults.py ORIGIN FILE`, slowly, from the definitions.
+"""Prints all faults of a zone file as `zonefaults` does, `tests/plain_faults.py ORIGIN FILE`, slowly.
 
-It is written from the prose of the definitions (`EntryPlaces`, `AllFaults`), not from the programs, and uses only the standard
-library. It reads a file octet by octet (RFC 1035 5.1), and looks at all records for each check. The status is 0 without faults, 1
-with faults, and 2 if the origin or the file can't be read.
+It is written from the prose of the definitions (`EntryPlaces`, `AllFaults`), not from the programs, and uses only the
+standard library. It reads a file octet by octet (RFC 1035 5.1), and looks at all records for each check. The status is
+0 without faults, 1 with faults, and 2 if the origin or the file can't be read.
 """
 import ipaddress
 import re
 import sys
 from pathlib import Path
 
-# Each type's number and the fields of its data: numbers of 2 or 4 octets (H, L), addresses (4, 6), names (n), one string (s),
-# one or more strings (t).
-TYPES = {"A": (1, "4"), "NS": (2, "n"), "CNAME": (5, "n"), "SOA": (6, "nnLLLLL"), "PTR": (12, "n"), "HINFO": (13, "ss"),
+# Each type's number and the fields of its data: numbers of 2 or 4 octets (H, L), addresses (4, 6), names (n), one
+# string (s), one or more strings (t).
+TYPES = {"A": (1, "4"), "NS": (2, "n"), "CNAME": (5, "n"), "SOA": (6, "nnLLLLL"), "PTR": (12, "n"),
+         "HINFO": (13, "ss"),
          "MX": (15, "Hn"), "TXT": (16, "t"), "AAAA": (28, "6"), "SRV": (33, "HHHn")}
 PIECES = dict(TYPES.values())
 WIDTHS = {"4": 4, "6": 16, "H": 2, "L": 4}
@@ -41,7 +42,8 @@ def escape_length(text, at):
 
 
 def run_end(text, at, alone):
-    """The end of the longest run from `at` on that consists of escapes and of octets in `alone`, which need no escape."""
+    """The end of the longest run from `at` on that consists of escapes and of octets in `alone`, which need no
+    escape."""
     while at < len(text):
         if text[at] == 92:
             length = escape_length(text, at + 1)
@@ -70,7 +72,8 @@ def token(text, at):
         end = run_end(text, at + 1, STRING)
         if end < len(text) and text[end] == 34:
             return "quoted", text[at + 1:end], end + 1
-        raise Fault(3 if end == len(text) or text[end] == 10 or text[end:end + 2] == b"\r\n" else 2 if text[end] == 92 else 1)
+        raise Fault(3 if end == len(text) or text[end] == 10 or text[end:end + 2] == b"\r\n" else 2 if text[end] == 92
+                    else 1)
     if octet in b"()":
         return chr(octet), None, at + 1
     if octet == 10 or text[at:at + 2] == b"\r\n":
@@ -89,8 +92,8 @@ def place_of(text, at):
 
 
 def read_entry(text, past, begin):
-    """The words of the entry that begins at `begin`, each with its place; the place of its end; its lexical fault and that
-    fault's place, or None; and where the next entry begins, or None."""
+    """The words of the entry that begins at `begin`, each with its place; the place of its end; its lexical fault and
+    that fault's place, or None; and where the next entry begins, or None."""
     at, words, is_open = begin, [], False
 
     def stopped(code, place):
@@ -151,7 +154,8 @@ def labels_of(raw):
 
 
 def name_of(word, origin):
-    """The name that a word spells, in lower case, below the origin if it is relative; None if the word is no valid name."""
+    """The name that a word spells, in lower case, below the origin if it is relative; None if the word is no valid
+    name."""
     raw, is_quoted = word
     if is_quoted:
         return None
@@ -165,8 +169,8 @@ def name_of(word, origin):
 
 
 def name_fault(raw):
-    """The number of the fault of a word that is no name: its labels from the left, an empty one 1, one of more than 63 octets 2;
-    3 if the name is too long."""
+    """The number of the fault of a word that is no name: its labels from the left, an empty one 1, one of more than 63
+    octets 2; 3 if the name is too long."""
     lengths = map(len, labels_of(raw)[0])
     return next((1 if length == 0 else 2 for length in lengths if not 1 <= length <= 63), 3)
 
@@ -263,12 +267,13 @@ def unknown_data(kind, words):
     parts = parts_of(kind, data) if is_said else None
     if parts is None:
         return None, (7 if is_said else 6, odd + 1)
-    return b"".join(wire([label.lower() for label in part]) if isinstance(part, tuple) else part for part in parts), None
+    return b"".join(wire([label.lower() for label in part]) if isinstance(part, tuple) else part
+                    for part in parts), None
 
 
 def data_of(kind, words, origin):
-    """The data that the words after the type spell, with its names in lower case, or None; and its fault or None: a number, and
-    how many words, from the type on, precede the faulty one."""
+    """The data that the words after the type spell, with its names in lower case, or None; and its fault or None: a
+    number, and how many words, from the type on, precede the faulty one."""
     if words and words[0] == (b"\\#", False):
         return unknown_data(kind, words)
     pieces = PIECES.get(kind)
@@ -302,8 +307,8 @@ class Reader:
         self.origin, self.owner, self.default, self.stated, self.count, self.records = zone, None, None, None, 0, []
 
     def take(self, blank, words):
-        """What an entry without a lexical fault means: None; or a fault: its code, the number of words before the one at fault,
-        or None for the beginning of the entry, and its number."""
+        """What an entry without a lexical fault means: None; or a fault: its code, the number of words before the one
+        at fault, or None for the beginning of the entry, and its number."""
         bare = [word[:2] for word in words]
         if not bare:
             return None
@@ -337,9 +342,9 @@ class Reader:
                 other, rest = rest[0], rest[1:]
         before, kind = len(words) - len(rest), type_of(rest)
         ttl = ttl_of(stated) if stated else None
-        in_force = (INVALID if ttl is None else ttl) if stated else self.stated if self.default is None else self.default
+        in_force = self.stated if self.default is None else self.default
         if stated:
-            self.stated = INVALID if ttl is None else ttl
+            in_force = self.stated = INVALID if ttl is None else ttl
         self.count += 1
         if self.owner is None:
             return (8, None, None) if blank else (7, 0, None if words[0][1] else name_fault(words[0][0]))
@@ -362,8 +367,8 @@ class Reader:
 
 
 def faults_of(text, zone, first=False):
-    """All faults of a file, each as its place, its code, its number, and where its entry begins; and the records of its other
-    entries, without duplicates. If `first`, it stops after the first fault."""
+    """All faults of a file, each as its place, its code, its number, and where its entry begins; and the records of
+    its other entries, without duplicates. If `first`, it stops after the first fault."""
     text, past = text[:MOST_OCTETS], text[MOST_OCTETS:MOST_OCTETS + 1]
     reader, found, begin = Reader(zone), [], 0
     while begin is not None and not (found and (first or found[-1][1] >= 14)):
@@ -405,7 +410,8 @@ class Zone:
     def targets(self, name, *kinds):
         """The names in the zone to which the records of these types lead."""
         parts = [parts_of(kind, data) for _, kind, data, _ in self.at(name, *kinds)]
-        return [led for row in parts if is_below(led := next(part for part in row if isinstance(part, tuple)), self.zone)]
+        return [led for row in parts
+                if is_below(led := next(part for part in row if isinstance(part, tuple)), self.zone)]
 
     def is_lost(self, name, server):
         is_served = not self.cuts(server) or self.is_cut(name) and is_below(server, name)
@@ -466,7 +472,8 @@ def report(text, zone):
         dotted = "" if number is None else f".{number}"
         lines.append(f"{position(text, begin)}-{position(text, end)} R{code:02}{dotted}\n")
     lines += ["more\n"] * (len(found) > MOST_LISTED)
-    lines += [f"{spelled(owner)} Z{code:02}\n" for owner, code in checks(zone, records) if not found or code not in REMOVABLE]
+    kept = [(owner, code) for owner, code in checks(zone, records) if not found or code not in REMOVABLE]
+    lines += [f"{spelled(owner)} Z{code:02}\n" for owner, code in kept]
     return "".join(lines)
 
 

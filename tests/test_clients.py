@@ -1,5 +1,6 @@
-"""Common clients, resolvers and many questions to zoneserve and zonesocket, over real sockets; and many connections to zonesocket,
-whose replies must be those of `zoneserve once --tcp`: streams cut in every way, slow readers, half-closes, limits, and ends."""
+"""Common clients, resolvers and many questions to zoneserve and zonesocket, over real sockets; and many connections to
+zonesocket, whose replies must be those of `zoneserve once --tcp`: streams cut in every way, slow readers, half-closes,
+limits, and ends."""
 import asyncio
 import contextlib
 import os
@@ -62,7 +63,8 @@ def test_octet_for_octet(programs):
 
 
 def said_by(text):
-    """The output of dig or kdig in the form of that table. The records are in lower case, because kdig prints names so."""
+    """The output of dig or kdig in the form of that table. The records are in lower case, because kdig prints names
+    so."""
     status, flags = re.search(r"status: (\w+)", text), re.search(r"[Ff]lags: ([\w ]*);", text)
     records, section = [], None
     for line in text.split("\n"):
@@ -81,14 +83,16 @@ def said_by(text):
 def test_a_client(programs, client, words, transport):
     with zoneserve(programs, transport):
         for question, first, records in questions():
-            asked = [client, f"@{HERE}", "-p", str(PORT), *words, f"+{transport if transport == 'tcp' else 'notcp'}", *question.split()]
+            asked = [client, f"@{HERE}", "-p", str(PORT), *words, f"+{transport if transport == 'tcp' else 'notcp'}",
+                     *question.split()]
             run = subprocess.run(asked, capture_output=True, text=True, timeout=20)
             assert said_by(run.stdout) == (first, records), " ".join(asked)
 
 
 @pytest.mark.peers("dig")
 def test_questions_of_dig(programs):
-    """Several questions on one connection are one turn; a query with EDNS gets FORMERR, and dig says how to ask without."""
+    """Several questions on one connection are one turn; a query with EDNS gets FORMERR, and dig says how to ask
+    without."""
     words = ["+norec", "+noedns", "+tcp", "+keepopen", "+short"]
     names = ["www.example.", "mail.example.", "host.wild.example."]
     asked = ["dig", f"@{HERE}", "-p", str(PORT), *[word for name in names for word in [*words, name, "A"]]]
@@ -97,7 +101,8 @@ def test_questions_of_dig(programs):
         assert run.stdout.split() == ["192.0.2.80", "192.0.2.25", "192.0.2.7"]
         assert server.run.wait(timeout=5) == 0
     with zoneserve(programs, "udp"):
-        run = subprocess.run(["dig", f"@{HERE}", "-p", str(PORT), "www.example.", "A"], capture_output=True, text=True, timeout=20)
+        run = subprocess.run(["dig", f"@{HERE}", "-p", str(PORT), "www.example.", "A"], capture_output=True, text=True,
+                             timeout=20)
         assert "status: FORMERR" in run.stdout and "+noedns" in run.stdout
 
 
@@ -145,7 +150,8 @@ def stopped(process):
 
 @pytest.mark.parametrize("interrupts", [stopped, pytest.param(traced, marks=pytest.mark.peers("strace"))])
 def test_interrupted_calls(programs, interrupts):
-    """The server goes on after a call in which it waits is interrupted: for a datagram, for octets, for room to send."""
+    """The server goes on after a call in which it waits is interrupted: for a datagram, for octets, for room to
+    send."""
     with zoneserve(programs, "udp") as server:
         interrupts(server.run)
         assert over_udp(QUESTION)
@@ -173,13 +179,16 @@ def test_dnsperf_loses_nothing(programs, tmp_path):
     asked = tmp_path / "asked"
     asked.write_text("".join(f"{question}\n" for question, _, _ in questions()))
     with zoneserve(programs, "udp"), zonesocket(programs):
-        for words in [["-p", str(PORT)], *(["-p", str(SOCKET_PORT), "-m", "tcp", "-c", str(count)] for count in (1, 100, 250))]:
-            said = subprocess.run(["dnsperf", "-s", HERE, "-d", asked, "-l", "2", *words], capture_output=True, text=True).stdout
+        for words in [["-p", str(PORT)],
+                      *(["-p", str(SOCKET_PORT), "-m", "tcp", "-c", str(count)] for count in (1, 100, 250))]:
+            said = subprocess.run(["dnsperf", "-s", HERE, "-d", asked, "-l", "2", *words], capture_output=True,
+                                  text=True).stdout
             assert re.search(r"Queries lost:\s+0 ", said), said
 
 
 # For each resolver, its settings in tests/data, and its arguments.
-RESOLVERS = {"unbound": ("unbound.conf", "-d -c FOLDER/unbound.conf"), "pdns_recursor": ("recursor.conf", "--config-dir=FOLDER"),
+RESOLVERS = {"unbound": ("unbound.conf", "-d -c FOLDER/unbound.conf"),
+             "pdns_recursor": ("recursor.conf", "--config-dir=FOLDER"),
              "kresd": ("kresd.conf", "-n -q -c FOLDER/kresd.conf FOLDER")}
 
 
@@ -253,22 +262,27 @@ def test_units(tmp_path):
     for unit in sorted((TOP / "systemd").iterdir()):
         text = unit.read_text().replace("@PREFIX@/libexec/mitrehyssop", str(LIBEXEC))
         units.append(tmp_path / unit.name.replace("@", "@example"))
-        units[-1].write_text(text + ((TOP / "contrib" / "address.conf").read_text() if unit.suffix == ".socket" else ""))
+        units[-1].write_text(text
+                             + ((TOP / "contrib" / "address.conf").read_text() if unit.suffix == ".socket" else ""))
     done = subprocess.run(["systemd-analyze", "verify", "--man=no", *units], capture_output=True, text=True)
     assert done.returncode == 0, done.stderr
     service = next(unit for unit in units if unit.suffix == ".service")
-    said = subprocess.run(["systemd-analyze", "security", "--offline=true", "--no-pager", service], capture_output=True, text=True)
-    assert float(re.search(r"exposure level for .*: ([\d.]+)", said.stdout)[1]) < 1.6, os.linesep.join(said.stdout.splitlines()[-3:])
+    said = subprocess.run(["systemd-analyze", "security", "--offline=true", "--no-pager", service],
+                          capture_output=True, text=True)
+    assert float(re.search(r"exposure level for .*: ([\d.]+)", said.stdout)[1]) < 1.6, said.stdout[-300:]
 
 
 # ---- many connections to zonesocket
 
 MANY, ORIGIN = (HERE, 5391), "example.com"
-TEXT = "".join(f'large TXT "{number:02}{"x" * 250}" "{"y" * 255}" "{"z" * 255}" "{"z" * 200}"\n' for number in range(62))
-MANY_ZONE = f"$TTL 60\n@ SOA ns h 1 2 3 4 5\n@ NS ns\nns A 192.0.2.1\nwww A 192.0.2.2\nalias CNAME www\n*.w TXT \"any\"\n{TEXT}"
+TEXT = "".join(f'large TXT "{number:02}{"x" * 250}" "{"y" * 255}" "{"z" * 255}" "{"z" * 200}"\n'
+               for number in range(62))
+MANY_ZONE = ("$TTL 60\n@ SOA ns h 1 2 3 4 5\n@ NS ns\nns A 192.0.2.1\nwww A 192.0.2.2\nalias CNAME www\n"
+             f"*.w TXT \"any\"\n{TEXT}")
 MESSAGES = [
     query("www.example.com"), query("WWW.example.com"), query("nope.example.com"), query("alias.example.com"),
-    query("x.w.example.com", "TXT"), query("large.example.com", "TXT"), query("example.com", "NS"), query("example.org"),
+    query("x.w.example.com", "TXT"), query("large.example.com", "TXT"), query("example.com", "NS"),
+    query("example.org"),
     query("www.example.com")[:11], b"", query("www.example.com")[:20], query("www.example.com") + bytes(3),
     query("www.example.com") + bytes(60_000), b"\x00\x01\x80" + bytes(20), bytes(12), query("www.example.com", "ANY")]
 
@@ -318,8 +332,8 @@ async def read_to_end(reader, got, wanted, chance, is_closed):
 
 
 async def one_connection(number, replies):
-    """Sends some messages cut into pieces, and returns what is wrong with the replies, or None. Then the connection is closed, or
-    half closed, perhaps amid a message."""
+    """Sends some messages cut into pieces, and returns what is wrong with the replies, or None. Then the connection is
+    closed, or half closed, perhaps amid a message."""
     chance, got = random.Random(number), bytearray()
     chosen = [chance.randrange(len(MESSAGES)) for _ in range(chance.choice([1, 2, 5, 40]))]
     stream, wanted = b"".join(framed(MESSAGES[one]) for one in chosen), b"".join(replies[one] for one in chosen)
@@ -444,7 +458,8 @@ def test_a_file_or_a_terminal_never_ends_it(programs, zone, tmp_path):
 
 def test_sockets_that_are_not_served(programs, zone):
     def said(given, transport):
-        run = subprocess.run([programs / "zonesocket", transport, "1", ORIGIN, zone], stdin=given, capture_output=True, timeout=20)
+        run = subprocess.run([programs / "zonesocket", transport, "1", ORIGIN, zone], stdin=given, capture_output=True,
+                             timeout=20)
         return run.returncode, run.stderr.decode().strip()
     with contextlib.ExitStack() as stack:
         udp, tcp = (stack.enter_context(bound(kind, MANY)) for kind in (socket.SOCK_DGRAM, socket.SOCK_STREAM))
@@ -454,7 +469,8 @@ def test_sockets_that_are_not_served(programs, zone):
         idle = stack.enter_context(bound(socket.SOCK_STREAM, ("127.0.0.1", 5390)))
         idle.shutdown(socket.SHUT_RDWR)
         pair = stack.enter_context(socket.socketpair()[0])
-        rows = [(udp, "tcp"), (tcp, "udp"), (peer, "tcp"), (joined, "udp"), (fresh, "tcp"), (idle, "tcp"), (pair, "tcp")]
+        rows = [(udp, "tcp"), (tcp, "udp"), (peer, "tcp"), (joined, "udp"), (fresh, "tcp"), (idle, "tcp"),
+                (pair, "tcp")]
         if os.getuid() == 0:
             raw = stack.enter_context(socket.socket(socket.AF_INET, socket.SOCK_RAW, 200))
             rows += [(raw, "udp"), (raw, "tcp")]

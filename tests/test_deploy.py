@@ -1,5 +1,5 @@
-"""bin/zonedeploy and bin/zonedeploy-to: serials (RFC 1982 3.2), restarts that fail, faulty and other zones, files that can't be read
-or written, dry runs, two runs at once, runs that are killed, and connections that break."""
+"""bin/zonedeploy and bin/zonedeploy-to: serials (RFC 1982 3.2), restarts that fail, faulty and other zones, files that
+can't be read or written, dry runs, two runs at once, runs that are killed, and connections that break."""
 import hashlib
 import os
 import re
@@ -34,8 +34,8 @@ def script(path, *lines):
 
 @pytest.fixture
 def deploys(programs, tmp_path, monkeypatch):
-    """Runs zonedeploy in an empty folder, and compares its status, the serial of served.zone, and the number of restarts so far
-    with these, and looks for `said` in what it prints."""
+    """Runs zonedeploy in an empty folder, and compares its status, the serial of served.zone, and the number of
+    restarts so far with these, and looks for `said` in what it prints."""
     monkeypatch.chdir(tmp_path)
     Path("restarts").touch()
 
@@ -61,7 +61,8 @@ def test_serials_and_restarts(deploys):
     for restarts, serial in enumerate([2147483653, 3], 3):
         write(serial, "192.0.2.3")
         deploys(0, serial, restarts)
-    for address, said in [("192.0.2.256", "new:4: R13: "), ("192.0.2.4\na CNAME ns\n@ MX 10 a", "new:6: Z11: example.: ")]:
+    for address, said in [("192.0.2.256", "new:4: R13: "),
+                          ("192.0.2.4\na CNAME ns\n@ MX 10 a", "new:6: Z11: example.: ")]:
         write(4, address)
         deploys(1, 3, 4, said)
 
@@ -77,7 +78,8 @@ def test_files_that_are_not_plain(deploys):
     text = Path("new").read_text()
     Path("new").unlink()
     os.mkfifo("new")
-    for status, given, said in [(1, text.replace("192.0.2.4", "192.0.2.256"), "new:4: R13: "), (0, text, "nothing changes")]:
+    for status, given, said in [(1, text.replace("192.0.2.4", "192.0.2.256"), "new:4: R13: "),
+                                (0, text, "nothing changes")]:
         with subprocess.Popen(["tee", "new"], stdin=subprocess.PIPE, stdout=subprocess.DEVNULL) as writer:
             writer.stdin.write(given.encode())
             writer.stdin.close()
@@ -145,7 +147,8 @@ def test_two_runs_at_once_and_runs_that_are_killed(deploys):
     def slowly(seconds):
         Path("begun").unlink(missing_ok=True)
         settings = {**os.environ, "LAG": str(seconds), "PATH": f"{Path.cwd() / 'slow'}:{os.environ['PATH']}"}
-        child = subprocess.Popen(["zonedeploy", "example", "new", "served.zone", *WORKS], env=settings, stderr=subprocess.DEVNULL)
+        child = subprocess.Popen(["zonedeploy", "example", "new", "served.zone", *WORKS], env=settings,
+                                 stderr=subprocess.DEVNULL)
         until(lambda: os.path.exists("begun") or child.poll() is not None, 30)
         return child
     write(7)
@@ -188,9 +191,11 @@ def test_a_service_that_is_enabled_and_not_active_is_reported(deploys):
 
 @pytest.fixture
 def sends(deploys, monkeypatch):
-    """Deploys to hosts, and compares the status and the serial that is served on them. `ssh` runs the command with the folder host/
-    as the host's, and loses all octets after the first CUT. `dig` gets the reply only from ns1 and ns3."""
-    script("bin/ssh", 'echo "$1" >>hosts', 'head -c "$CUT" | sh -c "$(echo "$2" | sed "s|/var/lib/mitrehyssop|$PWD/host|g")"')
+    """Deploys to hosts, and compares the status and the serial that is served on them. `ssh` runs the command with the
+    folder host/ as the host's, and loses all octets after the first CUT. `dig` gets the reply only from ns1 and
+    ns3."""
+    script("bin/ssh", 'echo "$1" >>hosts',
+           'head -c "$CUT" | sh -c "$(echo "$2" | sed "s|/var/lib/mitrehyssop|$PWD/host|g")"')
     script("bin/dig", 'case "$*" in *@ns[13]\\ *) echo "ns.example. h.example. 4 2 3 4 5" ;; *) exit 9 ;; esac')
     script("bin/sleep")
     script("bin/systemctl")

@@ -1,4 +1,5 @@
-"""What documents promise: their commands, their sizes, the canonical texts of examples, and the picture of mistakes."""
+"""What documents promise: their commands, their sizes, the canonical texts of examples, and the picture of
+mistakes."""
 import os
 import re
 import shutil
@@ -19,7 +20,8 @@ def blocks(name):
     """The fenced blocks of a page. A manual page has them between .nf and .fi."""
     text = (TOP / name).read_text()
     if name.startswith("man/"):
-        for pattern, new in [(r"^\.R[SE]\n", ""), (r"^\.(nf|fi)$", "```"), (r"\\-", "-"), (r"\\\(aq", "'"), (r"\\e$", r"\\")]:
+        for pattern, new in [(r"^\.R[SE]\n", ""), (r"^\.(nf|fi)$", "```"), (r"\\-", "-"), (r"\\\(aq", "'"),
+                             (r"\\e$", r"\\")]:
             text = re.sub(pattern, new, text, flags=re.M)
     return re.findall(r"^```.*\n((?:(?!```).*\n)*)```", text, re.M)
 
@@ -44,8 +46,8 @@ def examples(tmp_path):
 
 @pytest.mark.parametrize("page", [page for page in PAGES + MANUAL if (page in APART) == ("RUNNER" in os.environ)])
 def test_commands_print_what_pages_say(programs, examples, page):
-    """If a program that a command needs is not installed, the rest of its block is left out. So are commands of manual pages that
-    need a socket."""
+    """If a program that a command needs is not installed, the rest of its block is left out. So are commands of manual
+    pages that need a socket."""
     is_apart = page in ("docs/CODES.md", "docs/IMPORT.md") or page in MANUAL
     for block in blocks(page):
         for command, wanted in commands(block):
@@ -53,7 +55,8 @@ def test_commands_print_what_pages_say(programs, examples, page):
                 break
             if page not in MANUAL or not re.search("zoneserve udp|zonecompare|^dig", command):
                 words = [os.environ["RUNNER"], command] if "RUNNER" in os.environ else ["bash", "-c", command]
-                done = subprocess.run(words, cwd=examples if is_apart else TOP, stdin=subprocess.DEVNULL, stdout=subprocess.PIPE,
+                done = subprocess.run(words, cwd=examples if is_apart else TOP, stdin=subprocess.DEVNULL,
+                                      stdout=subprocess.PIPE,
                                       stderr=subprocess.STDOUT, text=True, errors="replace")
                 assert done.stdout == wanted, command
 

@@ -1,6 +1,6 @@
-"""Faults at run time: allocations and system calls that fail, little memory, a small stack, bad standard streams, signals. Each run
-must either be normal, where the fault allows that, or end with the message and the status of docs/CODES.md, after writing at most a
-prefix of its normal output."""
+"""Faults at run time: allocations and system calls that fail, little memory, a small stack, bad standard streams,
+signals. Each run must either be normal, where the fault allows that, or end with the message and the status of
+docs/CODES.md, after writing at most a prefix of its normal output."""
 import contextlib
 import fcntl
 import os
@@ -50,8 +50,8 @@ class Case:
         return ran.returncode, ran.stdout, ran.stderr
 
     def stopped(self, result, message, nothing=True):
-        """Whether a run ended with status 2 and this message, and wrote no output, or, if `nothing` is false, a prefix of the
-        normal output."""
+        """Whether a run ended with status 2 and this message, and wrote no output, or, if `nothing` is false, a prefix
+        of the normal output."""
         status, output, errors = result
         begins = not output if nothing else self.output.startswith(output)
         return status == 2 and begins and errors == message + b"\n"
@@ -89,7 +89,8 @@ def case(request, programs, folder):
 
 @pytest.fixture(scope="module")
 def refusing(folder):
-    """Gives the environment that makes an allocation fail, and a file that is created when that happens (tests/data/refuse.c)."""
+    """Gives the environment that makes an allocation fail, and a file that is created when that happens
+    (tests/data/refuse.c)."""
     device, mark = folder / "refuse.so", folder / "refused"
     subprocess.run(["cc", "-shared", "-fPIC", "-O1", "-o", device, TOP / "tests" / "data" / "refuse.c"], check=True)
 
@@ -107,8 +108,8 @@ def limit_of(kind, octets):
 
 @compiled
 def test_each_allocation_fails(case, refusing):
-    """Alone: the program must report `no memory` and write no output, but for at most one, which only makes room ahead and is asked
-    for again."""
+    """Alone: the program must report `no memory` and write no output, but for at most one, which only makes room ahead
+    and is asked for again."""
     wells = number = 0
     while True:
         number += 1
@@ -122,7 +123,8 @@ def test_each_allocation_fails(case, refusing):
 
 
 def calls_refused(well):
-    """For each call that may get no memory, the output that `refused` must have if it gets none. `well` is its normal output."""
+    """For each call that may get no memory, the output that `refused` must have if it gets none. `well` is its normal
+    output."""
     def changed(begin, end, line):
         return b"".join([well[: well.index(begin)], line, b"\n", well[well.index(end):] if end else b""])
 
@@ -145,8 +147,9 @@ def refused(programs):
 
 @compiled
 def test_each_allocation_of_a_call_fails(refused, refusing):
-    """Alone: one call must report it, or else the program itself, but for at most one in each of three calls, which only makes room
-    ahead. The last allocation must be one of load_zone: the replies and sessions that follow it allocate nothing."""
+    """Alone: one call must report it, or else the program itself, but for at most one in each of three calls, which
+    only makes room ahead. The last allocation must be one of load_zone: the replies and sessions that follow it
+    allocate nothing."""
     assert refused.well == (0, (TOP / "crates" / "refused" / "stdout").read_bytes(), b"")
     wanted = calls_refused(refused.output)
     counts, number, last, wells = dict.fromkeys([*wanted, "the program"], 0), 0, "", 0
@@ -163,12 +166,12 @@ def test_each_allocation_of_a_call_fails(refused, refusing):
         last = names[0] if names else "the program"
         assert names or refused.stopped(result, b"no memory"), number
         counts[last] += 1
-    assert result == refused.well and min(counts.values()) > 0 and last == "load_zone" and wells <= 3, (counts, last, wells)
+    assert result == refused.well and min(counts.values()) > 0 and last == "load_zone" and wells <= 3, counts
 
 
 def test_little_memory(case):
-    """The limit is raised in steps of 64 KB, from the least with which the program starts, until three runs in a row are normal. Each
-    other run must report `no memory`."""
+    """The limit is raised in steps of 64 KB, from the least with which the program starts, until three runs in a row
+    are normal. Each other run must report `no memory`."""
     def run(program, kb):
         return program.run(preexec_fn=limit_of(resource.RLIMIT_AS, kb * 1024))
     usage, wells = Case([case.words[0], "--no-such-word"]), 0
@@ -194,8 +197,8 @@ ERRORS = {"mmap": "ENOMEM", "mremap": "ENOMEM", "openat": "EACCES", "read": "EIO
 
 
 def calls_of(case, folder):
-    """For each name of a system call in a run: the number of its calls by the loader, and by the loader and the program together.
-    The call that sets the action of SIGPIPE is the last one that is counted as the loader's."""
+    """For each name of a system call in a run: the number of its calls by the loader, and by the loader and the
+    program together. The call that sets the action of SIGPIPE is the last one that is counted as the loader's."""
     case.run(["strace", "-qq", "-o", str(folder / "trace")])
     calls = re.findall(r"^(\w+)\((.*)", (folder / "trace").read_text(errors="replace"), re.M)
     names, begun = [name for name, _ in calls], next(at for at, call in enumerate(calls) if "SIGPIPE" in call[1]) + 1
@@ -205,18 +208,20 @@ def calls_of(case, folder):
 @traced
 @pytest.mark.parametrize("name", ERRORS)
 def test_each_system_call_fails(case, folder, name):
-    """The program must print the message for what failed. If a call for memory or `close` fails, the run may also be normal."""
+    """The program must print the message for what failed. If a call for memory or `close` fails, the run may also be
+    normal."""
     loader, last = calls_of(case, folder)[name]
     message = {"openat": b"R16", "read": b"R16", "write": b"P1"}.get(name, b"no memory")
     for number in range(loader + 1, last + 1):
-        result = case.run(["strace", "-qq", "-o", "/dev/null", "-e", f"inject={name}:error={ERRORS[name]}:when={number}"])
+        result = case.run(["strace", "-qq", "-o", "/dev/null", "-e",
+                           f"inject={name}:error={ERRORS[name]}:when={number}"])
         is_well = result == case.well and name not in ("openat", "read", "write")
         assert is_well or case.stopped(result, message, nothing=name not in ("read", "write")), number
 
 
 def test_bad_streams(case, folder):
-    """Standard output is full, closed, a pipe without a reader, or a file of limited size with SIGXFSZ ignored. Then standard error
-    is closed."""
+    """Standard output is full, closed, a pipe without a reader, or a file of limited size with SIGXFSZ ignored. Then
+    standard error is closed."""
     def limited():
         signal.signal(signal.SIGXFSZ, signal.SIG_IGN)
         resource.setrlimit(resource.RLIMIT_FSIZE, (512, 512))
@@ -234,7 +239,8 @@ def test_bad_streams(case, folder):
 
 
 def test_streams_that_do_not_block(case):
-    """Standard input and output are pipes in non-blocking mode, and the peer is slow to write and to read: the run is normal."""
+    """Standard input and output are pipes in non-blocking mode, and the peer is slow to write and to read: the run is
+    normal."""
     reader, given = os.pipe()
     output, writer = os.pipe()
     fcntl.fcntl(writer, fcntl.F_SETPIPE_SZ, 4_096)
@@ -266,7 +272,8 @@ def test_streams_that_do_not_block(case):
 TURNS = 3
 # For each transport, the system calls on a socket, each with the error and the server's message if it fails.
 NETWORK = {
-    "udp": {"socket": ("EMFILE", "bind"), "bind": ("EADDRINUSE", "bind"), "recvfrom": ("ENOMEM", "U1"), "sendto": ("ENOBUFS", "U2")},
+    "udp": {"socket": ("EMFILE", "bind"), "bind": ("EADDRINUSE", "bind"), "recvfrom": ("ENOMEM", "U1"),
+            "sendto": ("ENOBUFS", "U2")},
     "tcp": {"socket": ("EMFILE", "bind"), "bind": ("EADDRINUSE", "bind"), "listen": ("EADDRINUSE", "bind"),
             "accept4": ("EMFILE", "accept"), "recvfrom": ("ENOMEM", "S1"), "sendto": ("ENOBUFS", "S2")}}
 # The system calls with which a server examines a socket that it is given.
@@ -278,7 +285,8 @@ def injecting(name, error, number):
 
 
 def ended(server):
-    """The status and the words on standard error of a server that ends by itself in five seconds, and is killed otherwise."""
+    """The status and the words on standard error of a server that ends by itself in five seconds, and is killed
+    otherwise."""
     with contextlib.suppress(subprocess.TimeoutExpired):
         server.run.wait(5)
     return server.end(0)
@@ -288,7 +296,8 @@ def ask(server, times):
     """Sends a query so many times, each over a new socket, and returns the number of replies."""
     answered = 0
     for _ in range(times if server.serves else 0):
-        with contextlib.suppress(OSError), asking(ADDRESS, 1) if server.transport == "udp" else connected(ADDRESS, 1) as client:
+        with contextlib.suppress(OSError), asking(ADDRESS, 1) if server.transport == "udp" else connected(ADDRESS,
+                                                                                                          1) as client:
             client.send(QUERY if server.transport == "udp" else framed(QUERY))
             answered += len(client.recv(512)) > 12
     return answered
@@ -301,8 +310,8 @@ server_and_transport = pytest.mark.parametrize("name, transport", [
 @traced
 @server_and_transport
 def test_each_call_on_a_socket_fails(programs, name, transport):
-    """If the server can't begin to serve, it must end with `bind`. Otherwise it must report the call, count the turn, and serve the
-    other turns."""
+    """If the server can't begin to serve, it must end with `bind`. Otherwise it must report the call, count the turn,
+    and serve the other turns."""
     for call, (error, message) in {**NETWORK[transport], **GIVEN}.items():
         if message == "bind" and (name == "zonesocket") != (call in GIVEN):
             continue
@@ -338,12 +347,14 @@ def test_a_given_socket_that_does_not_block(programs, transport):
 
 
 def recorded(transport):
-    """The replies of `refused` over a transport, the queries to which they are replies, and the octets of its session."""
+    """The replies of `refused` over a transport, the queries to which they are replies, and the octets of its
+    session."""
     lines = (TOP / "crates" / "refused" / "stdout").read_text().split("\n")
     first = lines.index("load_zone: a zone") + 1
     replies = [bytes.fromhex(line) for line in lines[first:first + 16]][1 if transport == "tcp" else 0::2]
     asked = [dns.message.from_wire(reply, question_only=True) for reply in replies]
-    queries = [dns.message.make_query(one.question[0].name, one.question[0].rdtype, flags=0, id=one.id).to_wire() for one in asked]
+    queries = [dns.message.make_query(one.question[0].name, one.question[0].rdtype, flags=0, id=one.id).to_wire()
+               for one in asked]
     return queries, replies, bytes.fromhex(lines[lines.index("serve_stream: Ok(3)") + 1])
 
 
@@ -376,11 +387,13 @@ def test_a_starved_server_over_udp(programs, refusing, name):
 @compiled
 @pytest.mark.parametrize("name", ["zoneserve", "zonesocket"])
 def test_a_starved_server_over_tcp(programs, refusing, name):
-    """A connection that there is no memory for is closed at once, with `accept`; one that is served gets its replies."""
+    """A connection that there is no memory for is closed at once, with `accept`; one that is served gets its
+    replies."""
     queries, replies, session = recorded("tcp")
     stream = framed(QUERY) + framed(QUERY[:11]) + framed(QUERY)
     with starved(programs, name, "tcp", 3, refusing) as server:
-        for sent, reply in [(b"".join(map(framed, queries)), b"".join(map(framed, replies))), (stream, session), (b"\0", b"")]:
+        for sent, reply in [(b"".join(map(framed, queries)), b"".join(map(framed, replies))), (stream, session),
+                            (b"\0", b"")]:
             with connected(ADDRESS) as client:
                 client.sendall(sent)
                 client.shutdown(socket.SHUT_WR)

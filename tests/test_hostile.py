@@ -1,5 +1,5 @@
-"""Randomly changed datagrams, zone files and messages, by fixed seeds: what zoneserve, zonecheck and dnsmsg print is compared with
-what plain programs say. The reader of zone files is plain_faults.py; the server is here."""
+"""Randomly changed datagrams, zone files and messages, by fixed seeds: what zoneserve, zonecheck and dnsmsg print is
+compared with what plain programs say. The reader of zone files is plain_faults.py; the server is here."""
 import itertools
 import os
 import random
@@ -49,15 +49,18 @@ class Server:
         return ([up for up in self.above(name) if up != self.origin and self.set_at(up, NS)] or [None])[-1]
 
     def source(self, name):
-        """The name whose records answer for a name: the name itself, the wildcard below its closest encloser, or None."""
+        """The name whose records answer for a name: the name itself, the wildcard below its closest encloser, or
+        None."""
         closest = next(up for up in self.above(name) if up in self.names)
         star = dns.name.Name((b"*", *closest.labels)) if name != closest else name
         return star if star in self.names else None
 
     def aliases(self, name, kind):
-        """The sets of the aliases that lead from a name, in order, and the last name. At most 16 aliases are followed."""
+        """The sets of the aliases that lead from a name, in order, and the last name. At most 16 aliases are
+        followed."""
         sets = []
-        while kind not in (CNAME, ANY) and not self.cut(name) and (alias := self.set_at(self.source(name), CNAME, name)):
+        while kind not in (CNAME,
+                           ANY) and not self.cut(name) and (alias := self.set_at(self.source(name), CNAME, name)):
             sets.append(alias)
             led = alias[0].target
             if len(sets) == 17 or not led.is_subdomain(self.origin) or any(one.name == led for one in sets):
@@ -81,8 +84,8 @@ class Server:
         return 0 if source else 3, None, aliases + found, [] if found else [soa]
 
     def sets(self, name, kind):
-        """All sets of a reply, each with its section; the number of leading sets without which it is truncated; its RCODE; and
-        whether it is authoritative."""
+        """All sets of a reply, each with its section; the number of leading sets without which it is truncated; its
+        RCODE; and whether it is authoritative."""
         rcode, cut, answers, authorities = self.outcome(name, kind)
         found = [*((1, one) for one in answers), *((2, one) for one in authorities)]
         asked, below = ([target for one in sets for target in targets(one)] for sets in (answers, authorities))
@@ -132,8 +135,8 @@ def message(number, flags, question, sets):
 
 
 def question_of(datagram):
-    """The name, the type and the class of the question; None unless exactly one question, whose name is written without pointers,
-    follows the header."""
+    """The name, the type and the class of the question; None unless exactly one question, whose name is written
+    without pointers, follows the header."""
     name, end = plain.name_at(datagram, 12) if datagram[4:12] == b"\0\1\0\0\0\0\0\0" else (None, 0)
     if name is None or len(datagram) != end + 4:
         return None
@@ -177,25 +180,38 @@ def queries(server):
     return [dns.message.make_query(name, kind, id=0x1234).to_wire() for name in names for kind in kinds]
 
 
-def changed_query(chance, query):
-    """A query after zero to four random changes: it is truncated, parts are duplicated or removed, octets changed or added."""
-    octets = bytearray(query)
-    for _ in range(chance.choice([0, 1, 1, 2, 4])):
-        at, end = sorted((chance.randrange(len(octets) + 1), chance.randrange(len(octets) + 1)))
-        way = chance.randrange(8)
-        if way < 3 and octets:
-            octets[chance.randrange(len(octets))] = chance.choice([0, 1, 42, 63, 64, 65, 191, 192, 255, chance.randrange(256)])
-        elif way == 3 and octets:
-            octets[chance.randrange(len(octets))] ^= 1 << chance.randrange(8)
-        elif way == 4:
-            del octets[at:]
-        elif way == 5:
-            octets[at:at] = octets[at:end]
-        elif way == 6:
-            del octets[at:at + chance.randrange(3)]
-        else:
-            octets += chance.randbytes(chance.choice([1, 4, 600]))
-    return bytes(octets)
+# Pieces that are put into a query, and into a zone file.
+PIECES = [b"\0", b"\300\14", b"a" * 63, b"\0\1\0\1", b"x" * 600, b"\1a\0", b"\0\0)\2\0\0\0\0\0\0\0"]
+WORDS = [b"(", b")", b'"', b"\\", b";", b"\r\n", b"\n", b" ", b"\n\n", b"@", b"*", b"$TTL 5\n", b"$ORIGIN x\n",
+         b"$x 1\n", b"\\# 1 0a",
+         b"TYPE65280", b"CH", b"IN", b"A", b"NS", b"CNAME", b"MX 10", b"192.0.2.1", b"::1", b"1h", b"0", b"2147483648",
+         b"\\065",
+         b"\\256", b"\xc3\xa4", b"\0", b"a.b.", b"..", b"w" * 64]
+
+
+def changed(chance, octets, pieces):
+    """Octets after zero to four random changes: octets are changed, parts removed or duplicated, the end cut off,
+    pieces or lines put in, or lines taken out."""
+    for _ in range(chance.choice([0, 1, 1, 1, 2, 3])):
+        at = chance.randrange(len(octets) + 1)
+        end, lines, line = min(len(octets), at
+                               + chance.randrange(1, 40)), octets.split(b"\n"), octets[:at].count(b"\n")
+        words = re.split(rb"( +)", lines[line])
+        words[chance.randrange(len(words))] = chance.choice(pieces)
+        ways = [
+            octets[:at] + bytes([chance.choice([0, 1, 42, 63, 64, 65, 191, 192, 255, chance.randrange(256)])])
+            + octets[at + 1:],
+            octets[:at] + bytes([(octets[at:] or b" ")[0] ^ 1 << chance.randrange(8)]) + octets[at + 1:],
+            octets[:at] + chance.choice(pieces) + octets[at:],
+            octets[:at] + octets[end:],
+            octets[:at] + octets[at:end] * 2 + octets[end:],
+            octets[:at]]
+        if len(lines) > 1:
+            ways += [b"\n".join(lines[:line] + lines[line + 1:]),
+                     b"\n".join([*lines[:line], chance.choice(lines), *lines[line:]]),
+                     b"\n".join([*lines[:line], b"".join(words), *lines[line + 1:]])]
+        octets = chance.choice(ways)
+    return octets
 
 
 @pytest.mark.parametrize("count", [20_000, pytest.param(1_000_000, marks=slow)])
@@ -204,11 +220,12 @@ def test_datagrams(programs, tmp_path, words, limit, count):
     """`zoneserve once` gives each of count/2 datagrams the reply of the plain server, octet for octet."""
     chance, server, replies = random.Random(limit), Server(ZONE.read_text()), 0
     asked = queries(server)
-    datagrams = [changed_query(chance, chance.choice(asked)) for _ in range(count // 2)]
+    datagrams = [changed(chance, chance.choice(asked), PIECES) for _ in range(count // 2)]
     given = tmp_path / "given"
     given.write_text("".join(datagram.hex() + "\n" for datagram in datagrams))
     with given.open() as source:
-        run = subprocess.run([programs / "zoneserve", "once", *words, "example", ZONE], stdin=source, capture_output=True, check=True)
+        run = subprocess.run([programs / "zoneserve", "once", *words, "example", ZONE], stdin=source,
+                             capture_output=True, check=True)
     for datagram, line in zip(datagrams, run.stdout.decode().splitlines(), strict=True):
         wanted = reply(server, datagram, limit)
         replies += wanted is not None and len(wanted) > 12
@@ -219,7 +236,8 @@ def test_datagrams(programs, tmp_path, words, limit, count):
 # ---- zone files
 
 def checked(text, zone):
-    """The expected output of zonecheck for a file, its expected status, and the records if it is a zone without a fault."""
+    """The expected output of zonecheck for a file, its expected status, and the records if it is a zone without a
+    fault."""
     found, records = plain.faults_of(text, zone, first=True)
     if found:
         (_, code, _, begin), = found
@@ -234,20 +252,23 @@ def printed(records):
     """The canonical text of a zone that has only A, NS and SOA records, as the zones of a sweep do."""
     def data(kind, octets):
         names = [plain.spelled(part) for part in plain.parts_of(kind, octets) if isinstance(part, tuple)]
-        numbers = [int.from_bytes(octets[at:at + 4], "big") for at in range(len(octets) - 20, len(octets), 4)] if kind == 6 else ()
+        numbers = [int.from_bytes(octets[at:at + 4], "big")
+                   for at in range(len(octets) - 20, len(octets), 4)] if kind == 6 else ()
         return ".".join(map(str, octets)) if kind == 1 else " ".join([*names, *map(str, numbers)])
 
     types = {number: name for name, (number, _) in plain.TYPES.items()}
     inorder = sorted(records, key=lambda record: (record[1] != 6, record[0][::-1], record[1], record[2]))
-    return "".join(f"{plain.spelled(owner)} {ttl} IN {types[kind]} {data(kind, octets)}\n" for owner, kind, octets, ttl in inorder)
+    return "".join(f"{plain.spelled(owner)} {ttl} IN {types[kind]} {data(kind, octets)}\n"
+                   for owner, kind, octets, ttl in inorder)
 
 
-# For each sweep, the most pieces of a text, and the pieces. First they are octets that begin or end tokens, then parts of
-# entries, then whole lines.
+# For each sweep, the most pieces of a text, and the pieces. First they are octets that begin or end tokens, then parts
+# of entries, then whole lines.
 SWEPT = [
     (5, [b" ", b"\n", b"(", b")", b'"', b";", b"\\", b"1", b"a", b"\r"]),
     (5, [b" ", b"\n", b"a ", b"B", b"1 ", b"IN ", b"A 1.2.3.4", b"$TTL ", b"$origin ", b"("]),
-    (4, [b"a 1 A 192.0.2.1\n", b"b A 192.0.2.1 ; x\n", b" A 192.0.2.2\r\n", b"@ 7 A 0.0.0.0\n", b"$TTL 5\n", b"$ORIGIN a\n",
+    (4, [b"a 1 A 192.0.2.1\n", b"b A 192.0.2.1 ; x\n", b" A 192.0.2.2\r\n", b"@ 7 A 0.0.0.0\n", b"$TTL 5\n",
+         b"$ORIGIN a\n",
          b"$ORIGIN .\n", b" 3 A (\n255.255.255.255 )\n", b"\\065\\.x IN type1 1.1.1.1\n", b"\n"]),
 ]
 # The end that is added to each text. It has the SOA and NS records that a zone needs.
@@ -280,40 +301,8 @@ def test_all_short_texts(programs, tmp_path, fewer):
 
     workers, texts = os.cpu_count(), list(swept(fewer))
     with ThreadPoolExecutor(workers) as pool:
-        assert sum(pool.map(zones, enumerate(texts[place::workers] for place in range(workers)))) >= (10 if fewer else 1_000)
-
-
-WORDS = [b"(", b")", b'"', b"\\", b";", b"\r\n", b"\n", b" ", b"\n\n", b"@", b"*", b"$TTL 5\n", b"$ORIGIN x\n", b"$x 1\n", b"\\# 1 0a",
-         b"TYPE65280", b"CH", b"IN", b"A", b"NS", b"CNAME", b"MX 10", b"192.0.2.1", b"::1", b"1h", b"0", b"2147483648", b"\\065",
-         b"\\256", b"\xc3\xa4", b"\0", b"a.b.", b"..", b"w" * 64]
-
-
-def changed_text(chance, text):
-    for _ in range(chance.choice([0, 1, 1, 1, 2, 3])):
-        at = chance.randrange(len(text) + 1)
-        end = min(len(text), at + chance.randrange(1, 40))
-        lines = text.split(b"\n")
-        line = chance.randrange(len(lines))
-        way = chance.randrange(8)
-        if way == 0:
-            text = text[:at] + bytes([chance.randrange(256)]) + text[at + 1:]
-        elif way == 1:
-            text = text[:at] + chance.choice(WORDS) + text[at:]
-        elif way == 2:
-            text = text[:at] + text[end:]
-        elif way == 3:
-            text = text[:at] + text[at:end] * 2 + text[end:]
-        elif way == 4:
-            text = text[:at]
-        elif way == 5:
-            text = b"\n".join(lines[:line] + lines[line + 1:])
-        elif way == 6:
-            text = b"\n".join(lines[:line] + [lines[chance.randrange(len(lines))]] + lines[line:])
-        else:
-            words = re.split(rb"( +)", lines[line])
-            words[chance.randrange(len(words))] = chance.choice(WORDS)
-            text = b"\n".join(lines[:line] + [b"".join(words)] + lines[line + 1:])
-    return text
+        assert sum(pool.map(zones, enumerate(texts[place::workers] for place in range(workers)))) >= (10 if fewer
+                                                                                                      else 1_000)
 
 
 @pytest.mark.parametrize("count", [500, pytest.param(100_000, marks=slow)])
@@ -324,7 +313,7 @@ def test_zone_files(programs, tmp_path, count):
     for _ in range(count):
         text, origin = chance.choice(texts)
         origin = origin[1].decode() if origin else "example"
-        text = changed_text(chance, text)
+        text = changed(chance, text, WORDS)
         file.write_bytes(text)
         run = subprocess.run([programs / "zonecheck", origin, file], capture_output=True, timeout=20)
         wanted, status, _ = checked(text, tuple(label.encode().lower() for label in origin.split(".")))
@@ -334,8 +323,10 @@ def test_zone_files(programs, tmp_path, count):
 # ---- messages
 
 def broken_messages():
-    """Ten captured messages: each truncated to each shorter length, and with each octet changed to each of six values."""
-    lines = re.findall(r"\nstandard input\n\|([0-9a-f]+)\n", (TOP / "crates" / "replay" / "data" / "captured.cases").read_text())
+    """Ten captured messages: each truncated to each shorter length, and with each octet changed to each of six
+    values."""
+    lines = re.findall(r"\nstandard input\n\|([0-9a-f]+)\n",
+                       (TOP / "crates" / "replay" / "data" / "captured.cases").read_text())
     for whole in map(bytes.fromhex, lines[:10]):
         yield from (whole[:end] for end in range(len(whole)))
         yield from (whole[:place] + bytes([octet]) + whole[place + 1:]
@@ -352,12 +343,14 @@ def is_read(programs, octets):
 def test_broken_messages(programs):
     with ThreadPoolExecutor(4) as pool:
         octets = list(broken_messages())
-        assert [one.hex() for one, read in zip(octets, pool.map(lambda one: is_read(programs, one), octets)) if not read] == []
+        assert [one.hex() for one, read in zip(octets, pool.map(lambda one: is_read(programs, one), octets))
+                if not read] == []
 
 
 def test_the_message_with_the_most_pointers(programs):
-    """Questions of six octets each, of which the name, the type and the class are all pointers. The first pointer leads to the
-    root, and each other one to the pointer before it, or to the last pointer that can be reached (RFC 1035 4.1.4)."""
+    """Questions of six octets each, of which the name, the type and the class are all pointers. The first pointer
+    leads to the root, and each other one to the pointer before it, or to the last pointer that can be reached (RFC
+    1035 4.1.4)."""
     count = (65_535 - 12 - 5) // 6
     pointers = (0xC000 | max(12, min(place - 2, 16_383)) for place in range(13, 17 + 6 * count, 2))
     head = b"".join(number.to_bytes(2, "big") for number in (1, 0x8000, 1 + count, 0, 0, 0))

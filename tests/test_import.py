@@ -1,5 +1,5 @@
-"""bin/zoneimport: zones in BIND's form, and the records that they specify according to RFC 1035, RFC 3597 and BIND's manual; inputs;
-and random zones, which named-compilezone must read or refuse as zoneimport does."""
+"""bin/zoneimport: zones in BIND's form, and the records that they specify according to RFC 1035, RFC 3597 and BIND's
+manual; inputs; and random zones, which named-compilezone must read or refuse as zoneimport does."""
 import base64
 import concurrent.futures
 import json
@@ -21,7 +21,8 @@ CASES = json.loads((DATA / "import.json").read_text())
 HEAD = "$TTL 1m\n@ IN SOA ns h ( 1 1h 5m 2w ; a comment\n   1m )\n@ NS ns\n@ NS ns.example.net.\nns A 192.0.2.1\n"
 OWN = {"example. 60 IN SOA ns.example. h.example. 1 3600 300 1209600 60", "example. 60 IN NS ns.example.",
        "example. 60 IN NS ns.example.net.", "ns.example. 60 IN A 192.0.2.1"}
-LOAD = ["named-compilezone", *"-k ignore -i none -n ignore -m ignore -M ignore -S ignore -r ignore -T ignore -W ignore".split(),
+LOAD = ["named-compilezone",
+        *"-k ignore -i none -n ignore -m ignore -M ignore -S ignore -r ignore -T ignore -W ignore".split(),
         "-s", "full"]
 bind = pytest.mark.peers("named-compilezone")
 
@@ -31,7 +32,8 @@ def imported(programs, tmp_path, monkeypatch):
     """Runs zoneimport in a folder with files that can be included. Returns its status and both outputs."""
     (tmp_path / "zones" / "folder").mkdir(parents=True)
     monkeypatch.chdir(tmp_path / "zones")
-    files = {"part": "a A 192.0.2.2\n  A 192.0.2.3\n", "folder/deep": "$ORIGIN x\na A 192.0.2.2\n", "cycle": "$INCLUDE cycle2\n",
+    files = {"part": "a A 192.0.2.2\n  A 192.0.2.3\n", "folder/deep": "$ORIGIN x\na A 192.0.2.2\n",
+             "cycle": "$INCLUDE cycle2\n",
              "cycle2": "$INCLUDE cycle\n", "../outside": "a A 192.0.2.2\n",
              **{f"chain{number}": f"$INCLUDE chain{number + 1}\n" for number in range(12)}}
     for name, text in files.items():
@@ -49,17 +51,19 @@ def imported(programs, tmp_path, monkeypatch):
 
 def printed(text):
     """The records of a zone as zonecheck prints them."""
-    return set(run("zonecheck", "--print", "example", "/dev/stdin", input=text, encoding="latin-1").stdout.splitlines())
+    return set(run("zonecheck", "--print", "example", "/dev/stdin", input=text,
+                   encoding="latin-1").stdout.splitlines())
 
 
 def compiled(text, folder):
-    """What named-compilezone reads from a zone in a folder, with owners in lower case, or None if it refuses the zone; the numbers
-    of the lines that it refuses; and what it prints."""
+    """What named-compilezone reads from a zone in a folder, with owners in lower case, or None if it refuses the zone;
+    the numbers of the lines that it refuses; and what it prints."""
     with tempfile.NamedTemporaryFile(dir=folder) as zone, tempfile.NamedTemporaryFile(dir=folder) as out:
         zone.write(text.encode("latin-1"))
         zone.flush()
         done = run(*LOAD, "-o", out.name, "example", zone.name, cwd=folder, encoding="latin-1")
-        records = [re.sub(r"^\S+", lambda owner: owner[0].lower(), line) for line in out.read().decode("latin-1").splitlines()]
+        records = [re.sub(r"^\S+", lambda owner: owner[0].lower(), line)
+                   for line in out.read().decode("latin-1").splitlines()]
         said = done.stdout + done.stderr
         refused = {int(line) for line in re.findall(rf"{re.escape(zone.name)}:(\d+): ", said)}
     return records if done.returncode == 0 else None, refused, said
@@ -92,7 +96,8 @@ def test_lines_that_are_refused(imported, line, said):
 NESTED = HEAD.replace("1h 5m 2w", "( 1h ( 5m ) 2w )").replace("\n", " \r\n")
 
 
-@pytest.mark.parametrize("text", ["\xef\xbb\xbf" + HEAD, HEAD.replace("$TTL 1m\n", ""), HEAD.replace("\n", "\r\n"), NESTED])
+@pytest.mark.parametrize("text", [
+    "\xef\xbb\xbf" + HEAD, HEAD.replace("$TTL 1m\n", ""), HEAD.replace("\n", "\r\n"), NESTED])
 def test_forms_of_files(imported, text):
     """A byte order mark, no $TTL, lines that end in CR LF, and nested parentheses."""
     status, new, error = imported("example", "-", given=text)
@@ -133,7 +138,7 @@ class Grammar:
             rows = [re.fullmatch(r"(?:(\d+)\*)?(.*)", one) for one in alternatives.split("|")]
             for name in names.split(","):
                 self.rules[name] = [row[2] for row in rows], [int(row[1] or 1) for row in rows]
-        self.types = sorted(name for name in self.rules if name.isupper() or name[:1].isupper())
+        self.types = sorted(name for name in self.rules if name[:1].isupper())
 
     def octets(self, size):
         return bytes(self.chance.randrange(256) for _ in range(size))
@@ -141,13 +146,15 @@ class Grammar:
     def special(self, name, size):
         pick, number = self.chance.choice, self.chance.randrange(size + 1)
         if name in ("hex", "octets", "dashed"):
-            text = self.octets(size).hex(*["-"] * (name == "dashed"))
+            text = pick([str.lower, str.upper])(self.octets(size).hex(*["-"] * (name == "dashed")))
             at = self.chance.randrange(0, len(text), 2) if name == "hex" and pick([0, 1]) else 0
-            return pick([text, text.upper()])[:at] + " " * bool(at) + text[at:]
+            return text[:at] + " " * bool(at) + text[at:]
         if name in ("coded", "base64"):
             text = base64.b64encode(self.octets(size)).decode()
             return text if name == "base64" or pick([0, 1]) else f"( {text[:3]} {text[3:]} )"
-        return str(self.chance.randrange(size)) if name == "any" else pick(["", "", "", "0", "00"]) + str(pick([0, 1, 10, size, number]))
+        if name == "any":
+            return str(number % size)
+        return pick(["", "", "", "0", "00"]) + str(pick([0, 1, 10, size, number]))
 
     def text(self, text):
         """A text in which each rule is expanded."""
@@ -164,10 +171,12 @@ class Grammar:
 
     def service(self):
         """The data of a SVCB record with some keys, in any order."""
-        keys = self.chance.sample(["alpn", "port", "ech", "ipv4hint", "ipv6hint", "dohpath", "key"], self.chance.randrange(4))
+        keys = self.chance.sample(["alpn", "port", "ech", "ipv4hint", "ipv6hint", "dohpath", "key"],
+                                  self.chance.randrange(4))
         named = {key: key if key != "key" else f"key{self.chance.randrange(8, 65535)}" for key in keys}
         given = [self.text(f"{named[key]}=<{key}>") for key in keys]
-        given += [self.text("no-default-alpn") + self.chance.choice(["", "="])] * ("alpn" in keys and self.chance.choice([0, 1]))
+        alone = self.chance.choice(["no-default-alpn", "no-default-alpn="])
+        given += [alone] * self.chance.choice([0, "alpn" in keys])
         given += [f"mandatory={','.join(named.values())}"] * (bool(keys) and self.chance.choice([0, 0, 1]))
         given += [self.chance.choice(["key9", "key65333", "key10="])] * self.chance.choice([0, 0, 1])
         self.chance.shuffle(given)
@@ -181,7 +190,8 @@ class Grammar:
         # After a mistake inside parentheses or quotation marks BIND refuses later lines too, so there is none.
         if data[spot:spot + 1] not in ("", *'"\\') and "(" not in data:
             data = data[:spot] + self.chance.choice(["", "x", "-", "=", " ", "9"]) + data[spot + 1:]
-        return f"{self.text('<owner> <front>')} {self.chance.choice([rtype] * 9 + [rtype.lower()])} {data}{self.one('comment')}"
+        rtype = self.chance.choice([rtype] * 9 + [rtype.lower()])
+        return f"{self.text('<owner> <front>')} {rtype} {data}{self.one('comment')}"
 
     def zone(self):
         text = self.text("<zone-head>" + "<zone-line>" * self.chance.randrange(1, 12))
@@ -194,13 +204,14 @@ REFUSES = {r"R11: .* does not read ": "a type that dnspython does not read",
            r"R11: the data is invalid for GPOS": "a position that is not a number (RFC 1712)",
            r"R11: the data is invalid for EUI": "an address with an octet of one digit (RFC 7043)",
            r"R09: ": "a TTL above 2147483647"}
-# What zoneimport accepts and BIND refuses: a CAA record whose mailbox is not a URL, and a NAPTR record with another expression.
-ACCEPTS = re.compile(r"CAA \d+ iodef|NAPTR", re.I)
+# What zoneimport accepts and BIND refuses: a CAA record whose mailbox is not a URL, a NAPTR record with another
+# expression, and a LOC record with more than two decimals of a metre, which are cut off.
+ACCEPTS = re.compile(r"CAA \d+ iodef|NAPTR|LOC .*\.\d{3}", re.I)
 
 
 def differing_entries(seed, folder):
-    """What zoneimport and named-compilezone read otherwise in 30 random entries, and the number that both accept. Only the first
-    faults may be reported, so faulty entries are taken out until none is left."""
+    """What zoneimport and named-compilezone read otherwise in 30 random entries, and the number that both accept. Only
+    the first faults may be reported, so faulty entries are taken out until none is left."""
     import faults
     grammar = Grammar(seed)
     entries, begin, wrong = [grammar.entry(at) for at in range(30)], HEAD.count("\n") + 1, []
@@ -226,8 +237,8 @@ def differing_entries(seed, folder):
 
 
 def differing_zones(seed, folder):
-    """Whether zoneimport and named-compilezone read a random zone alike, and which of them accept it. BIND accepts types that are
-    not served here, and it corrects TTLs that differ in a set."""
+    """Whether zoneimport and named-compilezone read a random zone alike, and which of them accept it. BIND accepts
+    types that are not served here, and it corrects TTLs that differ in a set."""
     import faults
     text = Grammar(seed).zone()
     zone = faults.imported("example", text, "zone", folder).check()
@@ -241,7 +252,8 @@ def differing_zones(seed, folder):
 
 @bind
 @pytest.mark.parametrize("differing, count, least", [
-    (differing_zones, 200, 20), (differing_entries, 20, 100), pytest.param(differing_zones, 2_000, 200, marks=pytest.mark.slow),
+    (differing_zones, 200, 20), (differing_entries, 20, 100),
+    pytest.param(differing_zones, 2_000, 200, marks=pytest.mark.slow),
     pytest.param(differing_entries, 1_000, 5_000, marks=pytest.mark.slow)])
 def test_random_zones(imported, differing, count, least):
     for name, text in (("inc1", "i1 A 192.0.2.7\n TXT \"x\"\n"), ("inc2", "$ORIGIN k\ni2 1h A 192.0.2.8\n$TTL 77\n"),

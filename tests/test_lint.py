@@ -1,15 +1,14 @@
-"""bin/zonelint: the message and the remedy for each kind of fault, pairs of mistakes, inputs, formats, files in BIND's form, rules,
-baselines, serials, and costs. zonecheck must report the same faults, and pass the zone that is corrected as the message says."""
+"""bin/zonelint: the message and the remedy for each kind of fault, pairs of mistakes, inputs, formats, files in BIND's
+form, rules, baselines, serials, and costs. zonecheck must report the same faults, and pass the zone that is corrected
+as the message says."""
 import itertools
 import json
 import os
 import pty
 import re
-import resource
 import select
 import shutil
 import subprocess
-import sys
 import tempfile
 import urllib.parse
 import xml.etree.ElementTree
@@ -24,10 +23,11 @@ GOOD = "$TTL 1h\n@ SOA ns h 2026112301 2h 15m 2w 1h\n@ NS ns\n@ NS ns.example.ne
 # A good zone as zoneserve serves it.
 SERVED = "$TTL 60\n@ SOA ns h 1 60 5 600 60\n@ NS ns\n@ NS ns.example.net.\nns A 192.0.2.1\n"
 FAULTY = (TOP / "examples" / "faulty.zone").read_text()
-# `lines`: for each fault its code, a part of zonelint's message, the faulty lines that are added to a good zone, and the lines
-# corrected as the message or docs/CODES.md says. `files`: a code, a faulty file, and the corrected one. `reports`: a file, and all faults
-# that zonelint reports, each with its line. `bind`: lines in BIND's form, and the code of what is wrong. `says`: the same, and a part
-# of the message. `together`: mistakes that are not made in one zone, since in one RRset or on one line they make other faults.
+# `lines`: for each fault its code, a part of zonelint's message, the faulty lines that are added to a good zone, and
+# the lines corrected as the message or docs/CODES.md says. `files`: a code, a faulty file, and the corrected one.
+# `reports`: a file, and all faults that zonelint reports, each with its line. `bind`: lines in BIND's form, and the
+# code of what is wrong. `says`: the same, and a part of the message. `together`: mistakes that are not made in one
+# zone, since in one RRset or on one line they make other faults.
 CASES = json.loads((DATA / "faults.json").read_text())
 
 
@@ -38,8 +38,8 @@ def found_in(said, kinds="."):
 
 @pytest.fixture
 def lint(programs, tmp_path, monkeypatch):
-    """Runs zonelint in an empty folder, with `text` as the file z, or as its input if it is `given`. Returns the status, the codes
-    with their lines, and all that it prints."""
+    """Runs zonelint in an empty folder, with `text` as the file z, or as its input if it is `given`. Returns the
+    status, the codes with their lines, and all that it prints."""
     monkeypatch.chdir(tmp_path)
 
     def lint(*words, text=None, given=None):
@@ -91,10 +91,13 @@ def test_all_faults_of_a_file(lint, text, wanted):
 # ---- mistakes
 
 def mistakes():
-    """The sound zone of tests/data/mistakes, and each mistake there: its title, its kind, and the lines that it takes out and adds."""
-    sound, *cases = [[line for line in case.split("\n") if line] for case in (DATA / "mistakes").read_text().split("\n== ")[1:]]
+    """The sound zone of tests/data/mistakes, and each mistake there: its title, its kind, and the lines that it takes
+    out and adds."""
+    sound, *cases = [[line for line in case.split("\n") if line]
+                     for case in (DATA / "mistakes").read_text().split("\n== ")[1:]]
     titles = [case[0].split(" ", 1) for case in cases]
-    return sound[1:], [(title, kind, [line[2:] for line in lines if line[:2] == "- "], [line for line in lines if line[:2] != "- "])
+    return sound[1:], [(title, kind, [line[2:] for line in lines if line[:2] == "- "],
+                        [line for line in lines if line[:2] != "- "])
                        for (kind, title), (_, *lines) in zip(titles, cases)]
 
 
@@ -116,24 +119,28 @@ def test_mistakes_alone_and_in_pairs(lint):
 
     def belong(one, other):
         named = [f"{case[1]} {case[0]}" for case in (one, other)]
-        return any(x in named[0] and y in named[1] or y in named[0] and x in named[1] for x, y in CASES["together"]) or one[2] and other[2]
+        return any(x in named[0] and y in named[1] or y in named[0] and x in named[1]
+                   for x, y in CASES["together"]) or one[2] and other[2]
 
     sound, cases = mistakes()
     assert found([mistaken(sound)]) == [set()]
     alone = found([mistaken(sound, case) for case in cases])
     for case, some in zip(cases, alone):
         assert some and any(code[0] in "RZ" for code, _ in some) == (case[1] == "fault"), case
-    pairs = [pair for pair in itertools.combinations(range(len(cases)), 2) if not belong(cases[pair[0]], cases[pair[1]])]
+    pairs = [pair for pair in itertools.combinations(range(len(cases)), 2)
+             if not belong(cases[pair[0]], cases[pair[1]])]
     for (a, b), some in zip(pairs, found([mistaken(sound, cases[a], cases[b]) for a, b in pairs])):
         assert alone[a] | alone[b] <= some, (cases[a][0], cases[b][0])
 
 
 NAMED = ["named-checkzone", "-i", "local", *(word for check in "kmMnrSTW" for word in (f"-{check}", "warn"))]
-CHECKERS = [["zonecheck", "--quiet"], [str(LINT)], NAMED, ["nsd-checkzone"], ["kzonecheck", "-o"], ["validns", "-p", "all", "-z"]]
+CHECKERS = [["zonecheck", "--quiet"], [str(LINT)], NAMED, ["nsd-checkzone"], ["kzonecheck", "-o"],
+            ["validns", "-p", "all", "-z"]]
 
 
 def said_of(checker, text, origin="example.com"):
-    """The status of a checker and the set of lines that it writes about a zone, or None if the checker is not installed."""
+    """The status of a checker and the set of lines that it writes about a zone, or None if the checker is not
+    installed."""
     if not shutil.which(checker[0], path=f"{os.environ['PATH']}:/usr/sbin"):
         return None
     Path("example.com.zone").write_text(text, encoding="utf-8")
@@ -143,13 +150,14 @@ def said_of(checker, text, origin="example.com"):
 
 
 def table(checkers):
-    """The rows of docs/plots/mistakes.txt. `rejects`: the status is not 0. `warns`: it is 0, and there is a message that the zone
-    without mistakes does not get. `silent`: neither. `-`: the checker is not installed. The fresh mistakes were made by others,
-    before zonelint was changed for them."""
+    """The rows of docs/plots/mistakes.txt. `rejects`: the status is not 0. `warns`: it is 0, and there is a message
+    that the zone without mistakes does not get. `silent`: neither. `-`: the checker is not installed. The fresh
+    mistakes were made by others, before zonelint was changed for them."""
     sound, cases = mistakes()
     fresh = json.loads((DATA / "mistakes-fresh.json").read_text(encoding="utf-8"))
     rows = [(title, "example.com", mistaken(sound, case), mistaken(sound)) for case in cases for title in case[:1]]
-    rows += [(f"fresh: {title}", origin, text, text.rstrip("\n").rpartition("\n")[0] + "\n") for title, origin, text, _ in fresh]
+    rows += [(f"fresh: {title}", origin, text, text.rstrip("\n").rpartition("\n")[0] + "\n")
+             for title, origin, text, _ in fresh]
     usual = {}
     for title, origin, text, before in rows:
         cells = []
@@ -157,7 +165,8 @@ def table(checkers):
             if (at, before) not in usual:
                 usual[at, before] = said_of(checker, before, origin)
             found, without = said_of(checker, text, origin), usual[at, before]
-            cells.append("-" if found is None else "rejects" if found[0] else "warns" if found[1] - without[1] else "silent")
+            cells.append("-" if found is None else "rejects" if found[0] else "warns" if found[1] - without[1]
+                         else "silent")
         yield title, cells
 
 
@@ -167,7 +176,8 @@ def test_the_table_of_mistakes(lint):
     lines = (TOP / "docs" / "plots" / "mistakes.txt").read_text().splitlines()[2:]
     for line, (title, cells) in zip(lines, table(CHECKERS), strict=True):
         wanted = line.strip("|\n ").split(" | ")
-        assert wanted[0] == title and all(got in ("-", one) for got, one in zip(cells, wanted[1:], strict=True)), (line, cells)
+        is_same = all(got in ("-", one) for got, one in zip(cells, wanted[1:], strict=True))
+        assert wanted[0] == title and is_same, (line, cells)
 
 
 # ---- inputs
@@ -193,8 +203,9 @@ def test_several_zones(lint):
     assert status == 2 and len(found_in(said, "[RZ]")) == 4 and said.count("nowhere") == 1
 
 
-@pytest.mark.parametrize("words", ["example nowhere", "example .", "a..b z", "example", "", "--format x example z", "--zones nowhere",
-                                   "example - example -", " z", "--serial nothing example z", "--serial HEAD example -"])
+@pytest.mark.parametrize("words", [
+    "example nowhere", "example .", "a..b z", "example", "", "--format x example z", "--zones nowhere",
+    "example - example -", " z", "--serial nothing example z", "--serial HEAD example -"])
 def test_bad_calls(lint, words):
     (Path.cwd() / "z").write_text(SERVED)
     done = run(LINT, "--served", *(words.split(" ") if words else []), input="")
@@ -214,11 +225,13 @@ def test_an_output_that_is_closed_or_full(lint, words):
     assert (closed.returncode, closed.stderr) == (2, f"{words.split()[0]}: standard output is closed\n")
     Path("z").write_text(FAULTY)
     with open("/dev/full", "w") as full:
-        assert subprocess.run(words.split(), stdout=full, stderr=subprocess.DEVNULL).returncode == (1 if "import" in words else 2)
+        done = subprocess.run(words.split(), stdout=full, stderr=subprocess.DEVNULL)
+    assert done.returncode == (1 if "import" in words else 2)
 
 
 def test_many_faults(lint):
-    status, _, said = lint("--served", "example", "z", text=SERVED + "".join(f"w{i} A 192.0.2.256\n" for i in range(150)))
+    status, _, said = lint("--served", "example", "z", text=SERVED
+                           + "".join(f"w{i} A 192.0.2.256\n" for i in range(150)))
     assert status == 1 and found_in(said, "[RZ]") == [("R13", i) for i in range(6, 106)]
     assert said.endswith("\nz: 100 faults are reported, and there may be more\n100 errors, 0 warnings in 1 zone\n")
 
@@ -258,20 +271,24 @@ def read_forms(name):
     return {
         "json": [(fault["file"], fault["line"], fault["code"]) for fault in json.loads(read("json"))],
         "github": [(file, int(line), code) for file, line, code in github],
-        "gitlab": [(fault["location"]["path"], fault["location"]["lines"]["begin"], fault["check_name"]) for fault in gitlab],
+        "gitlab": [(fault["location"]["path"], fault["location"]["lines"]["begin"], fault["check_name"])
+                   for fault in gitlab],
         "sarif": [(unquoted(place["artifactLocation"]["uri"]), place["region"]["startLine"], result["ruleId"])
                   for place, result in zip(places, sarif)],
-        "checkstyle": [(file.get("name"), int(error.get("line")), error.get("source")[-3:]) for file in files for error in file]}
+        "checkstyle": [(file.get("name"), int(error.get("line")), error.get("source")[-3:]) for file in files
+                       for error in file]}
 
 
 @pytest.mark.parametrize("name, spelled", [
     ('a "<&%\n,:zone', {"github": 'a "<&%25%0A%2C%3Azone'}),
-    (os.fsdecode(b"\xff\x1b[31m\xc3\xbc.zone"), {"json": "\\255\x1b[31m\u00fc.zone", "gitlab": "\\255\x1b[31m\u00fc.zone"})])
+    (os.fsdecode(b"\xff\x1b[31m\xc3\xbc.zone"),
+     {"json": "\\255\x1b[31m\u00fc.zone", "gitlab": "\\255\x1b[31m\u00fc.zone"})])
 def test_formats_and_names_of_files(lint, name, spelled):
     Path(name).write_text(FAULTY)
     for form, found in read_forms(name).items():
         assert [one[1:] for one in found] == [(5, "Z10"), (6, "Z11"), (9, "Z06"), (10, "Z06"), (8, "W45")], form
-        assert form in ("github", "checkstyle") and form not in spelled or {one[0] for one in found} == {spelled.get(form, name)}
+        files = {one[0] for one in found}
+        assert form in ("github", "checkstyle") and form not in spelled or files == {spelled.get(form, name)}
     for form in ("text", "github", "checkstyle"):
         assert re.fullmatch(r"[\n -~]+", lint("--served", "--format", form, "example", name)[2])
 
@@ -291,7 +308,8 @@ def test_a_zone_without_faults_in_each_format(lint):
 def git(lint):
     """Runs git in a repository in which example.com.zone is committed with the serial 4294967295."""
     def git(*words):
-        assert run("git", "-c", "user.name=a", "-c", "user.email=a@b", "-c", "commit.gpgsign=false", *words).returncode == 0
+        assert run("git", "-c", "user.name=a", "-c", "user.email=a@b", "-c", "commit.gpgsign=false",
+                   *words).returncode == 0
     Path("example.com.zone").write_text(SERVED.replace("h 1", "h 4294967295"))
     for words in (["init", "-q", "."], ["add", "."], ["commit", "-qm", "one"]):
         git(*words)
@@ -336,7 +354,7 @@ def test_lines_of_files_in_the_form_of_bind(lint):
     status, _, said = lint("example", "z", text=text)
     assert status == 1 and re.findall(r"^(\w+:\d+: R\d\d)", said, re.M) == ["part:2: R13"]
     found = lint("example", "z", text=SERVED + "$GENERATE 5-7 g$ A 192.0.2.25$\n@ NS sub\n")[1]
-    assert [one for one in found if one[0][0] in "RZ"] in ([("R13", 6), ("R13", 6), ("Z10", 7)], [("R13", 6), ("Z10", 7)])
+    assert sorted(set(one for one in found if one[0][0] in "RZ")) == [("R13", 6), ("Z10", 7)]
 
 
 def seconds_of(words):
@@ -350,7 +368,8 @@ def seconds_of(words):
 
 
 def test_one_fault_many_times(lint):
-    Path("z").write_text(SERVED + "$GENERATE 1-50000 a$ A 192.0.2.300\n@ NS sub\n" + "".join(f"b{i} A 192.0.2.1$\n" for i in range(300)))
+    Path("z").write_text(SERVED + "$GENERATE 1-50000 a$ A 192.0.2.300\n@ NS sub\n"
+                         + "".join(f"b{i} A 192.0.2.1$\n" for i in range(300)))
     _, seconds, _, said = seconds_of([LINT, "example", "z"])
     found = found_in(said, "[RZ]")
     assert found[0] == ("R13", 6) and found[1][1] == 8 and seconds < 30
@@ -358,7 +377,8 @@ def test_one_fault_many_times(lint):
 
 @pytest.mark.parametrize("faults, limit", [(0, 3), (50, 15)])
 def test_the_time_for_100_000_records(lint, faults, limit):
-    lines = [f"h{i} A {'298' if faults and i % 2000 == 7 else '198'}.51.{i // 256 % 256}.{i % 256}\n" for i in range(99990)]
+    lines = [f"h{i} A {'298' if faults and i % 2000 == 7 else '198'}.51.{i // 256 % 256}.{i % 256}\n"
+             for i in range(99990)]
     Path("z").write_text(SERVED + "".join(lines))
     _, seconds, _, said = seconds_of([LINT, "--served", "example", "z"])
     assert len(found_in(said, "[RZ]")) == faults and seconds < limit
@@ -386,8 +406,8 @@ def test_files_in_the_form_of_bind_pass(lint):
 
 
 def test_what_only_other_servers_serve_is_noted(lint):
-    signed = "@ DNSKEY 257 3 13 ( aaaa\n bbbb )\n RRSIG NS 13 1 60 20260101000000 20250101000000 1 @ aaaa\n A 192.0.2.3\ns NS n.s\n" \
-        "s DS 1 8 2 aabb\nn.s A 192.0.2.2\nd DNAME x.example.net.\n@ MX 1 a.d\n"
+    signed = ("@ DNSKEY 257 3 13 ( aaaa\n bbbb )\n RRSIG NS 13 1 60 20260101000000 20250101000000 1 @ aaaa\n"
+              " A 192.0.2.3\ns NS n.s\ns DS 1 8 2 aabb\nn.s A 192.0.2.2\nd DNAME x.example.net.\n@ MX 1 a.d\n")
     status, found, said = lint("example", "z", text=GOOD + signed)
     assert (status, found) == (0, [("N01", 1), ("N01", 1)])
     assert "3 records of DNSSEC (DNSKEY, RRSIG, DS) were not checked" in said
@@ -431,8 +451,10 @@ def test_explain_and_version(lint):
 
 def test_a_baseline_hides_what_it_lists(lint):
     assert lint("--write-baseline", "old", "example", "z", text=GOOD + "a CNAME b\nb CNAME ns\n")[0] == 0
-    assert lint("--baseline", "old", "example", "z", text="; a line more\n" + GOOD + "a CNAME b\nb CNAME ns\n")[:2] == (0, [])
-    assert lint("--baseline", "old", "example", "z", text=GOOD + "a CNAME b\nb CNAME ns\nx A 192.0.2.300\n")[1] == [("R13", 8)]
+    assert lint("--baseline", "old", "example", "z", text="; a line more\n" + GOOD
+                + "a CNAME b\nb CNAME ns\n")[:2] == (0, [])
+    assert lint("--baseline", "old", "example", "z", text=GOOD
+                + "a CNAME b\nb CNAME ns\nx A 192.0.2.300\n")[1] == [("R13", 8)]
     assert lint("--baseline", "z", "example", "z")[0] == 2
 
 
@@ -448,15 +470,20 @@ def test_remedies_that_are_sure_are_written(lint, tmp_path):
 
 def test_which_zones_are_checked(lint, tmp_path):
     rooted = GOOD.replace("@ SOA", "$ORIGIN own.example.\n@ SOA")
-    for name, text in {"example.com.zone": GOOD, "db.example.org": GOOD, "192.0.2.db": GOOD, "notes.txt": "no zone", "z.zone": rooted}.items():
+    for name, text in {"example.com.zone": GOOD, "db.example.org": GOOD, "192.0.2.db": GOOD, "notes.txt": "no zone",
+                       "z.zone": rooted}.items():
         (tmp_path / name).write_text(text)
-    for words, count in [(["example.com.zone"], 1), ([".", "z.zone"], 1), (["./"], 4), (["example.com.zone", "db.example.org"], 2)]:
+    for words, count in [(["example.com.zone"], 1), ([".", "z.zone"], 1), (["./"], 4),
+                         (["example.com.zone", "db.example.org"], 2)]:
         status, _, said = lint("--error", "W01", *words, text="")
         assert "Z01" not in said or words == [".", "z.zone"], said
-    (tmp_path / "named.conf").write_text('options { directory "%s"; };\n// a comment\nzone "example.com" IN { type primary; '
-                                         'file "example.com.zone"; };\nzone "." { type hint; file "x"; };\n' % tmp_path)
-    (tmp_path / "nsd.conf").write_text('server:\n  zonesdir: "%s"\nzone:\n  name: example.com\n  zonefile: "example.com.zone" # c\n' % tmp_path)
-    (tmp_path / "knot.conf").write_text("template:\n  - id: default\n    storage: %s\nzone:\n  - domain: example.com\n    file: %%s.zone\n" % tmp_path)
+    (tmp_path / "named.conf").write_text(
+        f'options {{ directory "{tmp_path}"; }};\n// a comment\nzone "example.com" IN {{ type primary; '
+        'file "example.com.zone"; };\nzone "." { type hint; file "x"; };\n')
+    (tmp_path / "nsd.conf").write_text(
+        f'server:\n  zonesdir: "{tmp_path}"\nzone:\n  name: example.com\n  zonefile: "example.com.zone" # c\n')
+    (tmp_path / "knot.conf").write_text(
+        f"template:\n  - id: default\n    storage: {tmp_path}\nzone:\n  - domain: example.com\n    file: %s.zone\n")
     (tmp_path / "example.com.zone").write_text(GOOD + "x A 192.0.2.300\n")
     for settings in ["named.conf", "nsd.conf", "knot.conf"]:
         assert lint("--named-conf", settings)[:2] == (1, [("R13", 6)])
@@ -497,7 +524,8 @@ def test_formats(lint):
     assert len(run["results"]) == 21 and all(rule["help"]["text"] for rule in run["tool"]["driver"]["rules"])
     assert all(run["tool"]["driver"]["rules"][one["ruleIndex"]]["id"] == one["ruleId"] for one in run["results"])
     before = {one["fingerprint"] for one in json.loads(lint("--format", "gitlab", "example", "z")[2])}
-    after = {one["fingerprint"] for one in json.loads(lint("--format", "gitlab", "example", "z", text=";\n" + text)[2])}
+    after = {one["fingerprint"]
+             for one in json.loads(lint("--format", "gitlab", "example", "z", text=";\n" + text)[2])}
     assert before == after and len(before) == 21
 
 

@@ -1,4 +1,5 @@
-"""Wrong calls, files and outputs of the built programs; and what a caller of the libraries must not do, or no test would notice."""
+"""Wrong calls, files and outputs of the built programs; and what a caller of the libraries must not do, or no test
+would notice."""
 import json
 import os
 import re
@@ -9,13 +10,14 @@ import pytest
 from servers import TOP, run
 
 EXAMPLES, DATA = TOP / "examples", TOP / "tests" / "data"
-# For each program, its calls in examples/, in which FOLDER is a folder with faulty zones: the words, the status, and what is written to
-# each stream. zonesocket gets no socket.
+# For each program, its calls in examples/, in which FOLDER is a folder with faulty zones: the words, the status, and
+# what is written to each stream. zonesocket gets no socket.
 CALLS = json.loads((DATA / "calls.json").read_text())
 LOADED = "zone example/IN: loaded serial 1\nOK\n"
 
 
-@pytest.mark.parametrize("program, words, status, output, errors", [(name, *row) for name, rows in CALLS.items() for row in rows])
+@pytest.mark.parametrize("program, words, status, output, errors",
+                         [(name, *row) for name, rows in CALLS.items() for row in rows])
 def test_a_call(programs, tmp_path, program, words, status, output, errors):
     (tmp_path / "mapped.zone").write_text("$TTL 5\n@ AAAA ::192.0.2.1\n")
     (tmp_path / "open.zone").write_text('@ NS "')
@@ -47,7 +49,8 @@ def test_an_output_that_fails(programs, tmp_path, option, device):
 @pytest.mark.parametrize("option", ["", "--print"])
 def test_a_device_is_not_used_again_after_it_has_failed(programs, tmp_path, option):
     zone, calls = EXAMPLES / "example.zone", tmp_path / "calls"
-    done = run("bash", "-c", f"strace -qq -e trace=write,writev -o {calls} zonecheck {option} example {zone} >/dev/full")
+    done = run("bash", "-c",
+               f"strace -qq -e trace=write,writev -o {calls} zonecheck {option} example {zone} >/dev/full")
     assert (done.returncode, done.stderr) == (2, "P1\n")
     assert len(re.findall(r"^writev?\(1,", calls.read_text(), re.M)) == 1
 
@@ -65,17 +68,19 @@ pub fn lent<'z>(zone: &'z Zone, steps: &mut Steps<'z>, node: &Node<'z>) -> u32 {
     %s
 }
 """
-# `caller`: the error, and no other, for a caller of a walk (`Steps` of dns_zone, which counts the nodes that it reaches) that ends with
-# an expression. A walk is not cloned or copied; neither a walk nor a node gives a zone, which would allow a second walk; neither can
-# be constructed; and no count can be reset. `within`: expressions that are refused as `private-field` even in dns_zone, each with its
-# file and the line before which it is put. Neither a walk nor a node reaches an allocator; the search for a child reaches no row,
-# record or key of the tree, and makes or resets no count. `bodies`: see below.
+# `caller`: the error, and no other, for a caller of a walk (`Steps` of dns_zone, which counts the nodes that it
+# reaches) that ends with an expression. A walk is not cloned or copied; neither a walk nor a node gives a zone, which
+# would allow a second walk; neither can be constructed; and no count can be reset. `within`: expressions that are
+# refused as `private-field` even in dns_zone, each with its file and the line before which it is put. Neither a walk
+# nor a node reaches an allocator; the search for a child reaches no row, record or key of the tree, and makes or
+# resets no count. `bodies`: see below.
 MISUSE = json.loads((DATA / "misuse.json").read_text())
 
 
 @pytest.fixture(scope="module")
 def zone_library(tmp_path_factory):
-    """A folder outside the repository with a copy of dns_zone, of the crates that it uses, and of what is built of them."""
+    """A folder outside the repository with a copy of dns_zone, of the crates that it uses, and of what is built of
+    them."""
     assert run("rt", "lib", cwd=TOP / "crates" / "dns_zone", timeout=7200).returncode == 0
     folder, lines = tmp_path_factory.mktemp("library"), (TOP / "crates.txt").read_text().splitlines()
     uses = {line.split(":")[0]: line.split(":")[1].split() for line in lines if ":" in line}
@@ -100,7 +105,8 @@ def errors_of(crate):
 
 @pytest.mark.slow
 @pytest.mark.peers("rt")
-@pytest.mark.parametrize("error, expression", [(None, "if named { own.visits() } else { steps.visits() }"), *MISUSE["caller"]])
+@pytest.mark.parametrize("error, expression",
+                         [(None, "if named { own.visits() } else { steps.visits() }"), *MISUSE["caller"]])
 def test_misuse_of_a_walk(zone_library, error, expression):
     (zone_library / "caller" / "src" / "lib.rt").write_text(CALLER % expression)
     assert errors_of(zone_library / "caller") == (error and {error})
@@ -122,12 +128,13 @@ def test_misuse_of_a_tree(zone_library, file, expression, line):
 
 # ---- bodies that wrongly report that memory is missing
 
-# No contract rejects such a body, because a contract can't state when memory is available. So they can't be must-fail edits. For
-# each: the file, a text that occurs there once, the text that replaces it, the crate of tests, the modules of tests that are run
-# (without proofs), and the test that must fail.
+# No contract rejects such a body, because a contract can't state when memory is available. So they can't be must-fail
+# edits. For each: the file, a text that occurs there once, the text that replaces it, the crate of tests, the modules
+# of tests that are run (without proofs), and the test that must fail.
 @pytest.mark.slow
 @pytest.mark.peers("rt")
-@pytest.mark.parametrize("file, old, new, tests, modules, test", MISUSE["bodies"], ids=[body[-1] for body in MISUSE["bodies"]])
+@pytest.mark.parametrize("file, old, new, tests, modules, test", MISUSE["bodies"],
+                         ids=[body[-1] for body in MISUSE["bodies"]])
 def test_a_wrong_body_is_noticed(tmp_path, file, old, new, tests, modules, test):
     crates = tmp_path / "crates"
     shutil.copytree(TOP / "crates", crates, ignore=shutil.ignore_patterns("out"))

@@ -1,5 +1,5 @@
-"""The set-ups of docs/SCALE.md: services behind dnsdist, a hidden primary, and hosts that announce one address. Each is tested in
-network namespaces of its own."""
+"""The set-ups of docs/SCALE.md: services behind dnsdist, a hidden primary, and hosts that announce one address. Each
+is tested in network namespaces of its own."""
 import base64
 import contextlib
 import ctypes
@@ -10,7 +10,6 @@ import signal
 import subprocess
 import time
 import urllib.request
-from pathlib import Path
 
 import pytest
 from servers import TOP, Steady, Workers, run, until
@@ -31,7 +30,8 @@ class Network:
         """Makes a namespace with these addresses."""
         self.hosts.append(name)
         assert run("ip", "netns", "add", self.prefix + name).returncode == 0
-        self.ip(name, "link set lo up", *(f"addr add {address} dev lo {'nodad' * (':' in address)}" for address in addresses))
+        self.ip(name, "link set lo up",
+                *(f"addr add {address} dev lo {'nodad' * (':' in address)}" for address in addresses))
 
     def ip(self, name, *commands):
         for command in commands:
@@ -73,8 +73,8 @@ def network(programs, tmp_path):
 
 @contextlib.contextmanager
 def dnsdist(folder, more=""):
-    """Runs dnsdist with the settings of contrib/dnsdist.conf, and with `more` before the line that includes edns.lua. Yields a
-    function that runs a line in dnsdist's console."""
+    """Runs dnsdist with the settings of contrib/dnsdist.conf, and with `more` before the line that includes edns.lua.
+    Yields a function that runs a line in dnsdist's console."""
     text = (CONTRIB / "dnsdist.conf").read_text().replace("/usr/share/mitrehyssop/contrib", str(CONTRIB))
     if more:
         text = text.replace("dofile(", f"{more}dofile(").replace("local rules = 2", "local rules = 3")
@@ -149,7 +149,8 @@ def test_further_settings_of_dnsdist(services, tmp_path):
     words = "openssl req -x509 -newkey rsa:2048 -nodes -days 2 -subj /CN=ns.example.com".split()
     assert run(*words, "-keyout", tmp_path / "key.pem", "-out", tmp_path / "cert.pem").returncode == 0
     page = (TOP / "docs" / "SCALE.md").read_text()
-    more = page.partition("so `local rules = 3`:\n\n```\n")[2].partition("```")[0].replace("/etc/dnsdist", str(tmp_path))
+    more = page.partition("so `local rules = 3`:\n\n```\n")[2].partition("```")[0].replace("/etc/dnsdist",
+                                                                                           str(tmp_path))
     with dnsdist(tmp_path, more):
         assert dig("+edns=0", "www.example.com") == "NOERROR 192.0.2.2"
         assert run("dig", "+noedns", "+norec", "+short", "@2001:db8::1", "www.example.com").stdout == "192.0.2.2\n"
@@ -167,7 +168,8 @@ def test_further_settings_of_dnsdist(services, tmp_path):
 
 @pytest.mark.peers("nsd", "nsd-control", "knotd")
 def test_a_hidden_primary(network, tmp_path):
-    """NSD has the settings of contrib/hidden-nsd.conf. Knot transfers the zone that zonedeploy wrote, and again after a deploy."""
+    """NSD has the settings of contrib/hidden-nsd.conf. Knot transfers the zone that zonedeploy wrote, and again after
+    a deploy."""
     def deploy(serial, *command):
         (tmp_path / "new").write_text(ZONE.format(serial))
         done = run("zonedeploy", "example.com", tmp_path / "new", tmp_path / "example.com.zone", *command)
@@ -195,12 +197,13 @@ def test_a_hidden_primary(network, tmp_path):
 
 # ---- three hosts that announce one address
 
-# For zonedeploy-to: an ssh and a dig that reach the hosts of this test, and a systemctl that reloads the workers of a host.
+# For zonedeploy-to: an ssh and a dig that reach the hosts of this test, and a systemctl that reloads the workers of a
+# host.
 COMMANDS = {
     "ssh": """folder=FOLDER/$1 said=${2//\\/var\\/lib\\/mitrehyssop\\/example.com/$folder}
 HOST=$1 exec ip netns exec PREFIX$1 bash -c "$said"
-""",
-    "dig": """for word; do case $word in @[123]) exec ip netns exec PREFIX${word#@} DIG "${@/$word/@192.0.2.53}" ;; esac; done
+""", "dig": """for word; do case $word in @[123]) exec ip netns exec PREFIX${word#@} DIG "${@/$word/@192.0.2.53}" ;;
+esac; done
 exec DIG "$@"
 """,
     "systemctl": """[ "$1" != reload ] || kill -HUP "$(cat FOLDER/$HOST.served)"
@@ -218,9 +221,12 @@ class Anycast:
         network.ip("r", "link add rt type bridge", "addr add 198.51.100.1/24 dev rt", "link set rt up")
         for host in "123":
             network.host(host, "192.0.2.53/32")
-            network.ip("r", f"link add h{host} type veth peer name eth0 netns {network.prefix}{host}", f"link set h{host} master rt up")
-            network.ip(host, f"addr add 198.51.100.1{host}/24 dev eth0", "link set eth0 up", "route add default via 198.51.100.1")
-        network.ip("r", f"link add cl type veth peer name eth0 netns {network.prefix}c", "addr add 203.0.113.1/24 dev cl",
+            network.ip("r", f"link add h{host} type veth peer name eth0 netns {network.prefix}{host}",
+                       f"link set h{host} master rt up")
+            network.ip(host, f"addr add 198.51.100.1{host}/24 dev eth0", "link set eth0 up",
+                       "route add default via 198.51.100.1")
+        network.ip("r", f"link add cl type veth peer name eth0 netns {network.prefix}c",
+                   "addr add 203.0.113.1/24 dev cl",
                    "link set cl up")
         network.ip("c", "addr add 203.0.113.2/24 dev eth0", "link set eth0 up", "route add default via 203.0.113.1")
         with network.within("r"):
@@ -256,7 +262,8 @@ class Anycast:
 
     def are_there(self, count):
         """Whether so many hosts announce the address, at once or soon."""
-        return until(lambda: run("ip", "-n", self.network.prefix + "r", "route", "show", "192.0.2.53").stdout.count("via") == count, 30)
+        return until(lambda: run("ip", "-n", self.network.prefix + "r", "route", "show",
+                                 "192.0.2.53").stdout.count("via") == count, 30)
 
     def lost(self, work):
         """The number of lost questions of 5,000 in five seconds, while `work` is done."""
@@ -269,7 +276,9 @@ class Anycast:
         self.write(2)
         (self.folder / "bin").mkdir()
         for name, text in COMMANDS.items():
-            text = text.replace("FOLDER", str(self.folder)).replace("PREFIX", self.network.prefix).replace("DIG", shutil.which("dig"))
+            for word, value in {"FOLDER": self.folder, "PREFIX": self.network.prefix,
+                                "DIG": shutil.which("dig")}.items():
+                text = text.replace(word, str(value))
             (self.folder / "bin" / name).write_text("#!/usr/bin/env bash\n" + text)
             (self.folder / "bin" / name).chmod(0o755)
         path = {**os.environ, "PATH": f"{self.folder / 'bin'}:{os.environ['PATH']}"}

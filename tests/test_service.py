@@ -1,4 +1,5 @@
-"""libexec/workers: starts, reloads under load, faulty and missing files, workers that end, clients that stay, and ends."""
+"""libexec/workers: starts, reloads under load, faulty and missing files, workers that end, clients that stay, and
+ends."""
 import os
 import signal
 import socket
