@@ -21,21 +21,6 @@ QUERY = query("www.example")
 EXAMPLE = TOP / "examples" / "example.zone"
 pytestmark = pytest.mark.slow
 compiled, traced = pytest.mark.peers("cc"), pytest.mark.peers("strace")
-# A zone file with an entry over several lines, a change of the origin, and data in several forms.
-FORMS = rb"""$TTL 60
-@ SOA ns h ( 1 2
- 3 4 ; c
- 5 )
- NS ns
-ns A 192.0.2.1
- AAAA 2001:DB8:0:0:1::1
-$ORIGIN deep
-a\.b 7 IN TXT hi "x;y"
- CLASS1 9 TYPE65280 \# 3 AB cdef
-"""
-# A name error reply. The owner of its SOA record is a pointer, and the two names in the record's data end in pointers.
-NAME_ERROR = (b"123484030001000000010000046e6f7065076578616d706c650000010001c011000600010000012c0026"
-              b"026e73c0110a686f73746d6173746572c0110000000100001c2000000384001275000000012c\n")
 
 
 class Case:
@@ -57,16 +42,17 @@ class Case:
         return status == 2 and begins and errors == message + b"\n"
 
 
-# The words of each case, and its input: a file, octets or nothing.
+# The words of each case, and the file that is its input.
 CASES = {
     "check --print": ("zonecheck --print example EXAMPLES/example.zone", None),
-    "check --print forms": ("zonecheck --print example FOLDER/forms.zone", None),
+    "check --print forms": ("zonecheck --print example DATA/forms.zone", None),
     "check --print mixed": ("zonecheck --print example FOLDER/some.zone", None),
     "check faulty": ("zonecheck example EXAMPLES/faulty.zone", None),
-    "serve once": ("zoneserve once example EXAMPLES/example.zone", "zoneserve/stdin"),
-    "serve once --tcp": ("zoneserve once --tcp example FOLDER/some.zone", "zoneserve/stdin"),
-    "message": ("dnsmsg", "dnsmsg/stdin"),
-    "message of a name error": ("dnsmsg", NAME_ERROR),
+    "serve once": ("zoneserve once example EXAMPLES/example.zone", "crates/zoneserve/stdin"),
+    "serve once --tcp": ("zoneserve once --tcp example FOLDER/some.zone", "crates/zoneserve/stdin"),
+    "message": ("dnsmsg", "crates/dnsmsg/stdin"),
+    # The owner of its SOA record is a pointer, and the two names in the record's data end in pointers.
+    "message of a name error": ("dnsmsg", "tests/data/name-error"),
 }
 
 
@@ -75,15 +61,15 @@ def folder(tmp_path_factory):
     folder = tmp_path_factory.mktemp("faults")
     mixed = subprocess.run([TOP / "bench" / "mixed-zone"], capture_output=True, check=True).stdout
     (folder / "some.zone").write_bytes(b"\n".join([*mixed.split(b"\n")[:2000], b""]))
-    (folder / "forms.zone").write_bytes(FORMS)
     return folder
 
 
 @pytest.fixture(params=CASES)
 def case(request, programs, folder):
     words, given = CASES[request.param]
-    name, *words = words.replace("EXAMPLES", str(TOP / "examples")).replace("FOLDER", str(folder)).split()
-    given = (TOP / "crates" / given).read_bytes() if isinstance(given, str) else given or b""
+    places = {"EXAMPLES": TOP / "examples", "DATA": TOP / "tests" / "data", "FOLDER": folder}
+    name, *words = re.sub("EXAMPLES|DATA|FOLDER", lambda place: str(places[place[0]]), words).split()
+    given = (TOP / given).read_bytes() if given else b""
     return Case([programs / name, *words], given)
 
 

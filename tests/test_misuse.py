@@ -57,17 +57,6 @@ def test_a_device_is_not_used_again_after_it_has_failed(programs, tmp_path, opti
 
 # ---- what the compiler must refuse
 
-CALLER = """//! A caller that is lent a walk over a zone.
-#![tactic(auto)]
-
-use dns_zone::{Node, Steps, Zone};
-
-pub fn lent<'z>(zone: &'z Zone, steps: &mut Steps<'z>, node: &Node<'z>) -> u32 {
-    let own = Steps::new(zone);
-    let named = node.first_set().is_some();
-    %s
-}
-"""
 # `caller`: the error, and no other, for a caller of a walk (`Steps` of dns_zone, which counts the nodes that it
 # reaches) that ends with an expression. A walk is not cloned or copied; neither a walk nor a node gives a zone, which
 # would allow a second walk; neither can be constructed; and no count can be reset. `within`: expressions that are
@@ -108,7 +97,8 @@ def errors_of(crate):
 @pytest.mark.parametrize("error, expression",
                          [(None, "if named { own.visits() } else { steps.visits() }"), *MISUSE["caller"]])
 def test_misuse_of_a_walk(zone_library, error, expression):
-    (zone_library / "caller" / "src" / "lib.rt").write_text(CALLER % expression)
+    text = (DATA / "caller").read_text().replace("LAST", expression)
+    (zone_library / "caller" / "src" / "lib.rt").write_text(text)
     assert errors_of(zone_library / "caller") == (error and {error})
 
 
