@@ -1,17 +1,14 @@
 """Servers, sockets and queries, for tests and benches."""
 import contextlib
 import os
-import signal
 import socket
 import struct
 import subprocess
 import sys
-import tempfile
 import time
 from pathlib import Path
 
 import dns.message
-import dns.rcode
 
 TOP = Path(__file__).resolve().parent.parent
 LIBEXEC = TOP / "libexec"
@@ -24,8 +21,23 @@ def query(name, rtype="A", number=0x1234):
     return asked.to_wire()
 
 
+def questions():
+    """The rows of tests/data/questions: the name and type, the line of status and flags, and the records, sorted."""
+    text = (TOP / "tests" / "data" / "questions").read_text()
+    blocks = [[line for line in block.split("\n") if line and not line.startswith("#")]
+              for block in text.split("\n\n")]
+    return [(block[0], block[1], sorted(map(str.lower, block[2:]))) for block in blocks if block]
+
+
+def run(*words, **how):
+    """Runs a program, and returns its status and what it prints."""
+    return subprocess.run([str(word) for word in words],
+                          **{"capture_output": True, "text": True, "timeout": 900, **how})
+
+
 def serial_of(reply, place):
-    """The serial in a reply whose first record is an SOA at this place, with a pointer as its owner. Four numbers follow it."""
+    """The serial in a reply whose first record is an SOA at this place, with a pointer as its owner. Four numbers
+    follow it."""
     end = place + 12 + int.from_bytes(reply[place + 10:place + 12], "big")
     return int.from_bytes(reply[end - 20:end - 16], "big")
 
@@ -82,8 +94,8 @@ def seconds_of(process):
 
 
 class Workers:
-    """Runs libexec/workers for a zone file, with a runtime folder of its own, at two UDP sockets and a TCP socket of one address,
-    as the service has them. `by` is a command that starts it."""
+    """Runs libexec/workers for a zone file, with a runtime folder of its own, at two UDP sockets and a TCP socket of
+    one address, as the service has them. `by` is a command that starts it."""
 
     def __init__(self, programs, folder, address, origin, file, by=(), kinds="uut", **settings):
         self.room = Path(folder, "run")
@@ -94,8 +106,8 @@ class Workers:
         self.said = Path(folder, "said")
 
     def begin(self, given):
-        """Starts it with these sockets as its descriptors 3, 4, .. They are first duplicated to high descriptors, so that the
-        shell, which moves them, overwrites none."""
+        """Starts it with these sockets as its descriptors 3, 4, .. They are first duplicated to high descriptors, so
+        that the shell, which moves them, overwrites none."""
         far = [os.dup2(one.fileno(), one.fileno() + 100) for one in given]
         places = " ".join(f"{3 + place}<&{number} {number}<&-" for place, number in enumerate(far))
         shell = ["bash", "-c", f'exec "$@" {places}', "-", *self.by, LIBEXEC / "workers", self.origin, self.file]
@@ -135,8 +147,78 @@ class Workers:
 
     def processes(self, transport=""):
         """The ids of the workers of a transport, or of all workers."""
-        listed = subprocess.run(["ps", "-o", "pid=,args=", "--ppid", str(self.run.pid)], capture_output=True, text=True).stdout
+        listed = subprocess.run(["ps", "-o", "pid=,args=", "--ppid", str(self.run.pid)], capture_output=True,
+                                text=True).stdout
         return sorted(int(line.split()[0]) for line in listed.splitlines() if f"zonesocket {transport}" in line)
+
+
+class Serving:
+    """Runs zoneserve at an address, or zonesocket at a socket bound to it, during the body. `by` is a command that
+    starts it."""
+
+    def __init__(self, program, transport, zone, origin, address, turns=1_000_000, by=(), given=None, **how):
+        kind = {"udp": socket.SOCK_DGRAM, "tcp": socket.SOCK_STREAM}[transport]
+        self.transport, self.address = transport, address
+        self.given = given or (bound(kind, address) if program.name == "zonesocket" else None)
+        words = [*by, program, transport, *([] if self.given else [f"{address[0]}:{address[1]}"]), turns, origin, zone]
+        how = {"stdin": self.given or subprocess.DEVNULL, "stdout": subprocess.PIPE, "stderr": subprocess.PIPE, **how}
+        self.run = subprocess.Popen(list(map(str, words)), **how)
+
+    def __enter__(self):
+        """zonesocket prints a line when it serves."""
+        if self.given:
+            self.serves = bool(self.run.stdout.readline())
+        else:
+            self.serves = until(lambda: self.is_bound() or self.run.poll() is not None, 10) and self.run.poll() is None
+        return self
+
+    def __exit__(self, *_):
+        self.end(6 if self.given else 0)
+        if self.given:
+            self.given.close()
+
+    def is_bound(self):
+        rows = [line.split() for line in Path(f"/proc/net/{self.transport}").read_text().splitlines()[1:]]
+        state = {"udp": "07", "tcp": "0A"}[self.transport]
+        return any(row[1].endswith(f":{self.address[1]:04X}") and row[3] == state for row in rows)
+
+    def end(self, seconds=6):
+        """Closes the reading end of its output, which ends zonesocket, and kills it if it does not end. Returns its
+        status and the words on standard error."""
+        if not self.run.stdout.closed:
+            self.run.stdout.close()
+        with contextlib.suppress(subprocess.TimeoutExpired):
+            self.run.wait(seconds)
+        self.run.kill()
+        self.status = self.run.wait()
+        if not self.run.stderr.closed:
+            with self.run.stderr as errors:
+                self.said = errors.read().decode().split()
+        return self.status, self.said
+
+
+class Steady:
+    """Runs bench/steadily during the body, and for `least` seconds: it asks over UDP at a steady rate, and over TCP
+    with a new connection for each question. Then it has the numbers that bench/steadily prints."""
+
+    def __init__(self, address, origin, rate=5_000, connections=500, least=0, **settings):
+        self.words = [sys.executable, TOP / "bench" / "steadily", *map(str, address), origin, str(rate),
+                      str(connections)]
+        self.least, self.environment = least, {**os.environ, **settings}
+
+    def __enter__(self):
+        self.end = time.monotonic() + self.least
+        self.client = subprocess.Popen(self.words, stdin=subprocess.PIPE, stdout=subprocess.PIPE, text=True,
+                                       env=self.environment)
+        assert self.client.stdout.readline() == "begun\n"
+        time.sleep(0.5)
+        return self
+
+    def __exit__(self, *_):
+        time.sleep(max(0, self.end - time.monotonic()))
+        fields = self.client.communicate("\n", timeout=60)[0].split()
+        self.lost, self.asked, self.lost_tcp, self.asked_tcp, *self.longest = map(int, fields[:6])
+        self.serials = [int(field) for field in fields[6:]]
 
 
 @contextlib.contextmanager
@@ -166,17 +248,3 @@ def is_answered(address, message):
         other.send(message)
         return other.recv(512)[:2] == message[:2] and asks(client, message)
     return False
-
-
-def main():
-    """`servers.py PROGRAMS ADDRESS PORT ORIGIN FILE` runs libexec/workers at sockets of this address until TERM. HUP reloads."""
-    programs, address, port, origin, file = sys.argv[1:]
-    with tempfile.TemporaryDirectory() as folder, Workers(programs, folder, (address, int(port)), origin, file) as workers:
-        signal.signal(signal.SIGHUP, lambda *_: workers.run.send_signal(signal.SIGHUP))
-        signal.signal(signal.SIGTERM, lambda *_: sys.exit(0))
-        while workers.run.poll() is None:
-            time.sleep(0.1)
-
-
-if __name__ == "__main__":
-    main()

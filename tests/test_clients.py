@@ -1,56 +1,39 @@
-"""Common clients, resolvers and many questions to zoneserve and zonesocket, over real sockets."""
+"""Common clients, resolvers and many questions to zoneserve and zonesocket, over real sockets; and many connections to
+zonesocket, whose replies must be those of `zoneserve once --tcp`: streams cut in every way, slow readers, half-closes,
+limits, and ends."""
+import asyncio
 import contextlib
 import os
+import random
 import re
+import resource
 import signal
 import socket
+import struct
 import subprocess
 import time
 from pathlib import Path
 
 import pytest
-from servers import LIBEXEC, TOP, asking, asks, bound, connected, frame_of, framed, query, until
+from servers import LIBEXEC, TOP, Serving, asking, asks, bound, connected, frame_of, framed, query, questions, until
 
 HERE, PORT, SOCKET_PORT, BELOW = "127.0.0.1", 5399, 5398, "127.0.0.53"
 ADDRESS = (HERE, PORT)
-ZONE = TOP / "tests" / "data" / "served.zone"
+DATA = TOP / "tests" / "data"
+ZONE = DATA / "served.zone"
 QUESTION = query("www.example")
 
 
-class Serving:
-    """Runs zoneserve at an address during the body."""
-
-    def __init__(self, programs, transport, zone=ZONE, origin="example", address=ADDRESS, turns=1_000_000):
-        self.address, self.transport = address, transport
-        words = [programs / "zoneserve", transport, f"{address[0]}:{address[1]}", str(turns), origin, zone]
-        self.run = subprocess.Popen(words, stdin=subprocess.DEVNULL, stderr=subprocess.PIPE)
-
-    def __enter__(self):
-        assert until(self.is_bound, 10)
-        return self
-
-    def __exit__(self, *_):
-        self.run.kill()
-        self.said = self.run.communicate()[1].decode()
-
-    def is_bound(self):
-        rows = [line.split() for line in Path(f"/proc/net/{self.transport}").read_text().splitlines()[1:]]
-        state = {"udp": "07", "tcp": "0A"}[self.transport]
-        return any(row[1].endswith(f":{self.address[1]:04X}") and row[3] == state for row in rows)
-
-    def resident(self):
-        return int(re.search(r"VmRSS:\s+(\d+)", Path(f"/proc/{self.run.pid}/status").read_text())[1])
+def zoneserve(programs, transport, zone=ZONE, origin="example", address=ADDRESS, **how):
+    return Serving(programs / "zoneserve", transport, zone, origin, address, **how)
 
 
-@contextlib.contextmanager
-def many(programs, zone=ZONE, address=(HERE, SOCKET_PORT)):
-    """Runs zonesocket for many connections during the body."""
-    with bound(socket.SOCK_STREAM, address) as given:
-        run = subprocess.Popen([programs / "zonesocket", "tcp", "1000000", "example", zone], stdin=given, stdout=subprocess.PIPE)
-        run.stdout.readline()
-        yield run
-        run.stdout.close()
-        assert run.wait(6) == 0
+def zonesocket(programs, zone=ZONE, address=(HERE, SOCKET_PORT)):
+    return Serving(programs / "zonesocket", "tcp", zone, "example", address)
+
+
+def resident(server):
+    return int(re.search(r"VmRSS:\s+(\d+)", Path(f"/proc/{server.run.pid}/status").read_text())[1])
 
 
 def over_udp(message, seconds=2):
@@ -69,25 +52,19 @@ def recorded():
 
 def test_octet_for_octet(programs):
     zone = TOP / "examples" / "example.zone"
-    with Serving(programs, "udp", zone):
+    with zoneserve(programs, "udp", zone):
         for asked, reply in recorded():
             wanted = None if reply == "none" else bytes.fromhex(reply)
             assert over_udp(asked, 2 if wanted else 0.2) == wanted
-    with Serving(programs, "tcp", zone), connected(ADDRESS) as client:
+    with zoneserve(programs, "tcp", zone), connected(ADDRESS) as client:
         client.sendall(b"".join(framed(asked) for asked, _ in recorded()))
         for _, reply in recorded():
             assert reply == "none" or frame_of(client) == bytes.fromhex(reply)
 
 
-def questions():
-    """The rows of tests/data/questions: the name and type, the line of status and flags, and the records, sorted."""
-    text = (TOP / "tests" / "data" / "questions").read_text()
-    blocks = [[line for line in block.split("\n") if line and not line.startswith("#")] for block in text.split("\n\n")]
-    return [(block[0].split(), block[1], sorted(map(str.lower, block[2:]))) for block in blocks if block]
-
-
 def said_by(text):
-    """The output of dig or kdig in the form of that table. The records are in lower case, because kdig prints names so."""
+    """The output of dig or kdig in the form of that table. The records are in lower case, because kdig prints names
+    so."""
     status, flags = re.search(r"status: (\w+)", text), re.search(r"[Ff]lags: ([\w ]*);", text)
     records, section = [], None
     for line in text.split("\n"):
@@ -100,37 +77,40 @@ def said_by(text):
 
 
 @pytest.mark.parametrize("client, words", [
-    pytest.param("dig", ["+norec", "+noedns", "+nocookie", "+ignore"], marks=pytest.mark.needs("dig")),
-    pytest.param("kdig", ["+norec", "+noedns", "+ignore"], marks=pytest.mark.needs("kdig"))])
+    pytest.param("dig", ["+norec", "+noedns", "+nocookie", "+ignore"], marks=pytest.mark.peers("dig")),
+    pytest.param("kdig", ["+norec", "+noedns", "+ignore"], marks=pytest.mark.peers("kdig"))])
 @pytest.mark.parametrize("transport", ["udp", "tcp"])
 def test_a_client(programs, client, words, transport):
-    with Serving(programs, transport):
+    with zoneserve(programs, transport):
         for question, first, records in questions():
-            asked = [client, f"@{HERE}", "-p", str(PORT), *words, f"+{transport if transport == 'tcp' else 'notcp'}", *question]
+            asked = [client, f"@{HERE}", "-p", str(PORT), *words, f"+{transport if transport == 'tcp' else 'notcp'}",
+                     *question.split()]
             run = subprocess.run(asked, capture_output=True, text=True, timeout=20)
             assert said_by(run.stdout) == (first, records), " ".join(asked)
 
 
-@pytest.mark.needs("dig")
+@pytest.mark.peers("dig")
 def test_questions_of_dig(programs):
-    """Several questions on one connection are one turn; a query with EDNS gets FORMERR, and dig says how to ask without."""
+    """Several questions on one connection are one turn; a query with EDNS gets FORMERR, and dig says how to ask
+    without."""
     words = ["+norec", "+noedns", "+tcp", "+keepopen", "+short"]
     names = ["www.example.", "mail.example.", "host.wild.example."]
     asked = ["dig", f"@{HERE}", "-p", str(PORT), *[word for name in names for word in [*words, name, "A"]]]
-    with Serving(programs, "tcp", turns=1) as server:
+    with zoneserve(programs, "tcp", turns=1) as server:
         run = subprocess.run(asked, capture_output=True, text=True, timeout=20)
         assert run.stdout.split() == ["192.0.2.80", "192.0.2.25", "192.0.2.7"]
         assert server.run.wait(timeout=5) == 0
-    with Serving(programs, "udp"):
-        run = subprocess.run(["dig", f"@{HERE}", "-p", str(PORT), "www.example.", "A"], capture_output=True, text=True, timeout=20)
+    with zoneserve(programs, "udp"):
+        run = subprocess.run(["dig", f"@{HERE}", "-p", str(PORT), "www.example.", "A"], capture_output=True, text=True,
+                             timeout=20)
         assert "status: FORMERR" in run.stdout and "+noedns" in run.stdout
 
 
 def test_truncation(programs):
-    with Serving(programs, "udp"):
+    with zoneserve(programs, "udp"):
         reply = over_udp(query("many.example"))
         assert reply[2] & 2 and reply[6:8] == b"\0\0"
-    with Serving(programs, "tcp"), connected(ADDRESS) as client:
+    with zoneserve(programs, "tcp"), connected(ADDRESS) as client:
         client.sendall(framed(query("many.example")))
         reply = frame_of(client)
         assert not reply[2] & 2 and reply[6:8] == bytes([0, 40])
@@ -138,21 +118,21 @@ def test_truncation(programs):
 
 @pytest.mark.parametrize("datagrams", [10_000, pytest.param(999_900, marks=pytest.mark.slow)])
 def test_memory_does_not_grow(programs, datagrams):
-    with Serving(programs, "udp") as server, asking(ADDRESS) as client:
+    with zoneserve(programs, "udp") as server, asking(ADDRESS) as client:
         over_udp(QUESTION)
-        before = server.resident()
+        before = resident(server)
         for _ in range(datagrams // 100):
             for _ in range(100):
                 client.send(QUESTION)
             assert all(client.recv(512)[:2] == QUESTION[:2] for _ in range(100))
-        assert server.resident() <= before
-    with Serving(programs, "tcp") as server:
+        assert resident(server) <= before
+    with zoneserve(programs, "tcp") as server:
         for number in range(datagrams // 100):
             with connected(ADDRESS) as client:
                 assert asks(client, QUESTION)
             if number == 10:
-                before = server.resident()
-        assert server.resident() <= before
+                before = resident(server)
+        assert resident(server) <= before
 
 
 def traced(process):
@@ -168,22 +148,23 @@ def stopped(process):
         time.sleep(0.2)
 
 
-@pytest.mark.parametrize("interrupts", [stopped, pytest.param(traced, marks=pytest.mark.needs("strace"))])
+@pytest.mark.parametrize("interrupts", [stopped, pytest.param(traced, marks=pytest.mark.peers("strace"))])
 def test_interrupted_calls(programs, interrupts):
-    """The server goes on after a call in which it waits is interrupted: for a datagram, for octets, for room to send."""
-    with Serving(programs, "udp") as server:
+    """The server goes on after a call in which it waits is interrupted: for a datagram, for octets, for room to
+    send."""
+    with zoneserve(programs, "udp") as server:
         interrupts(server.run)
         assert over_udp(QUESTION)
-    assert server.said == ""
-    with many(programs) as run, connected((HERE, SOCKET_PORT), 15) as client:
-        interrupts(run)
+    assert server.said == []
+    with zonesocket(programs) as server, connected((HERE, SOCKET_PORT), 15) as client:
+        interrupts(server.run)
         assert asks(client, QUESTION)
         client.setblocking(False)
         sent, got, stream = 0, 0, framed(QUESTION) * 1_000
         with contextlib.suppress(BlockingIOError):
             while True:
                 sent += client.send(stream[sent % len(framed(QUESTION)):])
-        interrupts(run)
+        interrupts(server.run)
         client.setblocking(True)
         client.shutdown(socket.SHUT_WR)
         size = 0
@@ -193,57 +174,31 @@ def test_interrupted_calls(programs, interrupts):
         assert got == sent // len(framed(QUESTION)) * size
 
 
-@pytest.mark.needs("dnsperf")
+@pytest.mark.peers("dnsperf")
 def test_dnsperf_loses_nothing(programs, tmp_path):
     asked = tmp_path / "asked"
-    asked.write_text("".join(f"{question[0]} {question[1]}\n" for question, _, _ in questions()))
-    with Serving(programs, "udp"), many(programs):
-        for words in [["-p", str(PORT)], *(["-p", str(SOCKET_PORT), "-m", "tcp", "-c", str(count)] for count in (1, 100, 250))]:
-            said = subprocess.run(["dnsperf", "-s", HERE, "-d", asked, "-l", "2", *words], capture_output=True, text=True).stdout
+    asked.write_text("".join(f"{question}\n" for question, _, _ in questions()))
+    with zoneserve(programs, "udp"), zonesocket(programs):
+        for words in [["-p", str(PORT)],
+                      *(["-p", str(SOCKET_PORT), "-m", "tcp", "-c", str(count)] for count in (1, 100, 250))]:
+            said = subprocess.run(["dnsperf", "-s", HERE, "-d", asked, "-l", "2", *words], capture_output=True,
+                                  text=True).stdout
             assert re.search(r"Queries lost:\s+0 ", said), said
 
 
-RESOLVERS = {
-    "unbound": ("""server:
-  username: ""
-  chroot: ""
-  directory: "{folder}"
-  pidfile: ""
-  use-syslog: no
-  interface: 127.0.0.1@{own}
-  do-not-query-localhost: no
-  module-config: "iterator"
-  do-ip6: no
-  access-control: 127.0.0.0/8 allow
-stub-zone:
-  name: "example"
-  stub-addr: {here}@{port}
-  stub-prime: no
-""", "unbound.conf", ["-d", "-c", "{folder}/unbound.conf"]),
-    "pdns_recursor": ("""daemon=no
-write-pid=no
-socket-dir={folder}
-local-address=127.0.0.1
-local-port={own}
-dont-query=
-dnssec=off
-forward-zones=example={here}:{port}
-""", "recursor.conf", ["--config-dir={folder}"]),
-    "kresd": ("""net.listen('127.0.0.1', {own}, {{ kind = 'dns' }})
-cache.size = 1*MB
-trust_anchors.remove('.')
-modules = {{ 'policy' }}
-policy.add(policy.suffix(policy.STUB('{here}@{port}'), {{ todname('example') }}))
-""", "kresd.conf", ["-n", "-q", "-c", "{folder}/kresd.conf", "{folder}"]),
-}
+# For each resolver, its settings in tests/data, and its arguments.
+RESOLVERS = {"unbound": ("unbound.conf", "-d -c FOLDER/unbound.conf"),
+             "pdns_recursor": ("recursor.conf", "--config-dir=FOLDER"),
+             "kresd": ("kresd.conf", "-n -q -c FOLDER/kresd.conf FOLDER")}
 
 
 @contextlib.contextmanager
 def resolving(name, folder, own, port):
     """Runs a resolver at port `own`, which asks the server at `port` about names in the zone."""
-    settings, file, words = RESOLVERS[name]
-    (folder / file).write_text(settings.format(folder=folder, here=HERE, port=port, own=own))
-    words = [name, *(word.format(folder=folder) for word in words)]
+    file, words = RESOLVERS[name]
+    text = (DATA / file).read_text().replace("FOLDER", str(folder)).replace("PORT", str(port)).replace("OWN", str(own))
+    (folder / file).write_text(text)
+    words = [name, *words.replace("FOLDER", str(folder)).split()]
     run = subprocess.Popen(words, cwd=folder, stdout=subprocess.DEVNULL, stderr=subprocess.DEVNULL)
     try:
         yield run
@@ -258,12 +213,12 @@ def dig(port, *words):
 
 
 @pytest.mark.slow
-@pytest.mark.parametrize("name", [pytest.param(name, marks=pytest.mark.needs(name, "dig")) for name in RESOLVERS])
+@pytest.mark.parametrize("name", [pytest.param(name, marks=pytest.mark.peers(name, "dig")) for name in RESOLVERS])
 def test_a_resolver(programs, tmp_path, name):
     """A resolver asks again over TCP, and keeps its connection open: others are served at once meanwhile."""
     zone = tmp_path / "zone"
     zone.write_text(ZONE.read_text() + "".join(f"*.large A 192.0.2.{number}\n" for number in range(1, 41)))
-    with Serving(programs, "udp", zone, address=(HERE, 5390)), many(programs, zone, (HERE, 5390)), \
+    with zoneserve(programs, "udp", zone, address=(HERE, 5390)), zonesocket(programs, zone, (HERE, 5390)), \
             resolving(name, tmp_path, 5397, 5390) as run:
         assert until(lambda: dig(5397, "www.example.", "A") == "192.0.2.80\n", 20) and run.poll() is None
         for turn in range(3):
@@ -275,17 +230,17 @@ def test_a_resolver(programs, tmp_path, name):
 
 @pytest.mark.slow
 @pytest.mark.root
-@pytest.mark.needs("unbound", "dig")
+@pytest.mark.peers("unbound", "dig")
 def test_a_delegation(programs, tmp_path):
-    below = TOP / "tests" / "data" / "below.zone"
-    with Serving(programs, "udp"), Serving(programs, "udp", below, "sub.example", (BELOW, 53)), \
+    below = DATA / "below.zone"
+    with zoneserve(programs, "udp"), zoneserve(programs, "udp", below, "sub.example", (BELOW, 53)), \
             resolving("unbound", tmp_path, 5397, PORT):
         assert until(lambda: dig(5397, "www.example.", "A") == "192.0.2.80\n", 20)
         assert "192.0.2.99" in dig(5397, "www.sub.example.", "A") and "192.0.2.99" in dig(5397, "deep.example.", "A")
 
 
 def test_zoneserve_serves_connections_one_after_another(programs):
-    with Serving(programs, "tcp") as server:
+    with zoneserve(programs, "tcp") as server:
         with connected(ADDRESS) as first, connected(ADDRESS) as second:
             assert asks(first, QUESTION)
             second.sendall(framed(QUESTION))
@@ -297,19 +252,237 @@ def test_zoneserve_serves_connections_one_after_another(programs):
             assert asks(client, QUESTION) and time.monotonic() - begun < 3 * 2.5
         for one in silent:
             one.close()
-    assert set(server.said.split()) <= {"S1"}
+    assert set(server.said) <= {"S1"}
 
 
-@pytest.mark.needs("systemd-analyze")
+@pytest.mark.peers("systemd-analyze")
 def test_units(tmp_path):
     """systemd-analyze finds no fault in the units, and gives the service a low exposure."""
     units = []
     for unit in sorted((TOP / "systemd").iterdir()):
         text = unit.read_text().replace("@PREFIX@/libexec/mitrehyssop", str(LIBEXEC))
         units.append(tmp_path / unit.name.replace("@", "@example"))
-        units[-1].write_text(text + ((TOP / "examples" / "address.conf").read_text() if unit.suffix == ".socket" else ""))
+        units[-1].write_text(text
+                             + ((TOP / "contrib" / "address.conf").read_text() if unit.suffix == ".socket" else ""))
     done = subprocess.run(["systemd-analyze", "verify", "--man=no", *units], capture_output=True, text=True)
     assert done.returncode == 0, done.stderr
     service = next(unit for unit in units if unit.suffix == ".service")
-    said = subprocess.run(["systemd-analyze", "security", "--offline=true", "--no-pager", service], capture_output=True, text=True)
-    assert float(re.search(r"exposure level for .*: ([\d.]+)", said.stdout)[1]) < 1.6, os.linesep.join(said.stdout.splitlines()[-3:])
+    said = subprocess.run(["systemd-analyze", "security", "--offline=true", "--no-pager", service],
+                          capture_output=True, text=True)
+    assert float(re.search(r"exposure level for .*: ([\d.]+)", said.stdout)[1]) < 1.6, said.stdout[-300:]
+
+
+# ---- many connections to zonesocket
+
+MANY, ORIGIN = (HERE, 5391), "example.com"
+TEXT = "".join(f'large TXT "{number:02}{"x" * 250}" "{"y" * 255}" "{"z" * 255}" "{"z" * 200}"\n'
+               for number in range(62))
+MANY_ZONE = ("$TTL 60\n@ SOA ns h 1 2 3 4 5\n@ NS ns\nns A 192.0.2.1\nwww A 192.0.2.2\nalias CNAME www\n"
+             f"*.w TXT \"any\"\n{TEXT}")
+MESSAGES = [
+    query("www.example.com"), query("WWW.example.com"), query("nope.example.com"), query("alias.example.com"),
+    query("x.w.example.com", "TXT"), query("large.example.com", "TXT"), query("example.com", "NS"),
+    query("example.org"),
+    query("www.example.com")[:11], b"", query("www.example.com")[:20], query("www.example.com") + bytes(3),
+    query("www.example.com") + bytes(60_000), b"\x00\x01\x80" + bytes(20), bytes(12), query("www.example.com", "ANY")]
+
+
+@pytest.fixture(scope="module")
+def zone(tmp_path_factory):
+    file = tmp_path_factory.mktemp("zone") / "zone"
+    file.write_text(MANY_ZONE)
+    return file
+
+
+@pytest.fixture(scope="module")
+def replies(programs, zone):
+    """The octets that each message gets, by the program that is proved to give them."""
+    lines = "".join(message.hex() + "\n" for message in MESSAGES)
+    words = [programs / "zoneserve", "once", "--tcp", ORIGIN, zone]
+    said = subprocess.run(words, input=lines, capture_output=True, text=True, check=True).stdout.split()
+    return [b"" if line == "none" else framed(bytes.fromhex(line)) for line in said]
+
+
+def many(programs, zone, transport="tcp", **how):
+    return Serving(programs / "zonesocket", transport, zone, ORIGIN, MANY, **how)
+
+
+async def write_in_pieces(writer, stream, chance, is_closed):
+    most = chance.choice([1, 3, 100, 1_460, 70_000]) if len(stream) < 2_000 else chance.choice([1_460, 20_000, 70_000])
+    while stream:
+        size = chance.randrange(1, most + 1)
+        writer.write(stream[:size])
+        await writer.drain()
+        stream = stream[size:]
+        if chance.random() < 0.02:
+            await asyncio.sleep(chance.random() / 50)
+    if not is_closed:
+        writer.write_eof()
+
+
+async def read_to_end(reader, got, wanted, chance, is_closed):
+    slow = chance.random() < 0.2
+    while len(got) < len(wanted) or not is_closed:
+        piece = await reader.read(chance.choice([1_000, 70_000]) if slow else 1 << 16)
+        if not piece:
+            break
+        got.extend(piece)
+        if slow:
+            await asyncio.sleep(0.001)
+
+
+async def one_connection(number, replies):
+    """Sends some messages cut into pieces, and returns what is wrong with the replies, or None. Then the connection is
+    closed, or half closed, perhaps amid a message."""
+    chance, got = random.Random(number), bytearray()
+    chosen = [chance.randrange(len(MESSAGES)) for _ in range(chance.choice([1, 2, 5, 40]))]
+    stream, wanted = b"".join(framed(MESSAGES[one]) for one in chosen), b"".join(replies[one] for one in chosen)
+    ends = chance.choice(["close", "half", "cut"])
+    if ends == "cut":
+        stream += framed(MESSAGES[0])[:chance.randrange(1, 20)]
+    reader, writer = await asyncio.open_connection(*MANY, limit=chance.choice([1 << 10, 1 << 20]))
+    try:
+        async with asyncio.timeout(30):
+            await asyncio.gather(write_in_pieces(writer, stream, chance, ends == "close"),
+                                 read_to_end(reader, got, wanted, chance, ends == "close"))
+    except (OSError, TimeoutError) as error:
+        return f"{number}: {ends}: {error!r} after {len(got)} of {len(wanted)}"
+    finally:
+        writer.close()
+    return None if bytes(got) == wanted else f"{number}: {ends}: {len(got)} octets, not {len(wanted)}"
+
+
+async def all_connections(count, replies):
+    gate = asyncio.Semaphore(60)
+
+    async def one(number):
+        async with gate:
+            return await one_connection(number, replies)
+    return [wrong for wrong in await asyncio.gather(*map(one, range(count))) if wrong]
+
+
+@pytest.mark.parametrize("count", [600, pytest.param(10_000, marks=pytest.mark.slow)])
+def test_streams_cut_in_every_way(programs, zone, replies, count):
+    with many(programs, zone) as server:
+        assert asyncio.run(all_connections(count, replies)) == []
+        assert server.end()[0] == 0
+        assert set(server.said) <= {"S1", "S2", "S3"}
+
+
+def test_silent_and_slow_peers_end_after_ten_seconds(programs, zone):
+    with many(programs, zone) as server, contextlib.ExitStack() as stack:
+        def connect():
+            return stack.enter_context(connected(MANY, 15))
+        silent, half, drip, slow = (connect() for _ in range(4))
+        half.sendall(framed(MESSAGES[0])[:9])
+        slow.setsockopt(socket.SOL_SOCKET, socket.SO_RCVBUF, 1 << 12)
+        slow.sendall(framed(query("large.example.com", "TXT")) * 200)
+        begun = time.monotonic()
+        for octet in framed(MESSAGES[0])[:9]:
+            drip.send(bytes([octet]))
+            time.sleep(0.9)
+            assert asks_at_once()
+        assert frame_of(silent) is None and frame_of(half) is None and frame_of(drip) is None
+        assert 9 < time.monotonic() - begun < 12.5
+        assert sorted(server.end()[1]) == ["S1", "S1", "S2"]
+
+
+def asks_at_once():
+    """Whether another client is served at once."""
+    begun = time.monotonic()
+    with connected(MANY, 2) as client:
+        return asks(client, MESSAGES[0]) and time.monotonic() - begun < 0.5
+
+
+def test_more_peers_than_places(programs, zone):
+    """The one whose progress is oldest ends; one that asks now is served now."""
+    with many(programs, zone) as server, contextlib.ExitStack() as stack:
+        peers = [stack.enter_context(connected(MANY, 5)) for _ in range(256)]
+        assert until(lambda: asks_at_once())
+        assert frame_of(peers[0]) is None
+        assert all(asks(peer, MESSAGES[0]) for peer in peers[-50:])
+        more = [stack.enter_context(connected(MANY, 5)) for _ in range(100)]
+        assert asks_at_once() and asks(more[-1], MESSAGES[0])
+        assert server.end()[0] == 0
+
+
+def test_a_peer_that_resets(programs, zone):
+    with many(programs, zone) as server:
+        with connected(MANY) as other:
+            for _ in range(50):
+                client = connected(MANY)
+                client.sendall(framed(query("large.example.com", "TXT")) * 5)
+                client.setsockopt(socket.SOL_SOCKET, socket.SO_LINGER, struct.pack("ii", 1, 0))
+                client.close()
+            assert asks(other, MESSAGES[0]) and asks_at_once()
+        assert server.end()[0] == 0
+
+
+def test_few_descriptors(programs, zone):
+    """A connection that can't be accepted does not stop the others."""
+    limit = lambda: resource.setrlimit(resource.RLIMIT_NOFILE, (20, 20))  # noqa: E731
+    with many(programs, zone, preexec_fn=limit) as server, contextlib.ExitStack() as stack:
+        peers = [stack.enter_context(connected(MANY)) for _ in range(30)]
+        assert asks(peers[0], MESSAGES[0])
+        for peer in peers[1:20]:
+            peer.close()
+        assert until(lambda: asks_at_once(), 10)
+        assert server.end()[0] == 0 and "accept" in server.said
+
+
+def test_end_on_request(programs, zone):
+    with many(programs, zone) as server, connected(MANY) as client, connected(MANY) as silent:
+        assert asks(client, MESSAGES[0])
+        client.sendall(framed(MESSAGES[0]) * 100)
+        begun = time.monotonic()
+        server.run.stdout.close()
+        assert all(frame_of(client)[:2] == MESSAGES[0][:2] for _ in range(100)) and frame_of(client) is None
+        assert frame_of(silent) is None
+        assert server.end() == (0, []) and time.monotonic() - begun < 4.5
+    with many(programs, zone, "udp") as server, asking(MANY) as client:
+        client.send(MESSAGES[0])
+        assert client.recv(512)[:2] == MESSAGES[0][:2]
+        begun = time.monotonic()
+        assert server.end() == (0, []) and time.monotonic() - begun < 1
+
+
+def test_a_file_or_a_terminal_never_ends_it(programs, zone, tmp_path):
+    for output in [open(tmp_path / "said", "wb"), open(os.openpty()[1], "wb")]:
+        with output, bound(socket.SOCK_STREAM, MANY) as given:
+            run = subprocess.Popen([programs / "zonesocket", "tcp", "2", ORIGIN, zone], stdin=given, stdout=output)
+            assert until(lambda: asks_at_once())
+            time.sleep(0.5)
+            assert run.poll() is None and asks_at_once()
+            assert run.wait(5) == 0
+
+
+def test_sockets_that_are_not_served(programs, zone):
+    def said(given, transport):
+        run = subprocess.run([programs / "zonesocket", transport, "1", ORIGIN, zone], stdin=given, capture_output=True,
+                             timeout=20)
+        return run.returncode, run.stderr.decode().strip()
+    with contextlib.ExitStack() as stack:
+        udp, tcp = (stack.enter_context(bound(kind, MANY)) for kind in (socket.SOCK_DGRAM, socket.SOCK_STREAM))
+        peer = stack.enter_context(connected(MANY))
+        joined = stack.enter_context(asking(MANY))
+        fresh = stack.enter_context(socket.socket())
+        idle = stack.enter_context(bound(socket.SOCK_STREAM, ("127.0.0.1", 5390)))
+        idle.shutdown(socket.SHUT_RDWR)
+        pair = stack.enter_context(socket.socketpair()[0])
+        rows = [(udp, "tcp"), (tcp, "udp"), (peer, "tcp"), (joined, "udp"), (fresh, "tcp"), (idle, "tcp"),
+                (pair, "tcp")]
+        if os.getuid() == 0:
+            raw = stack.enter_context(socket.socket(socket.AF_INET, socket.SOCK_RAW, 200))
+            rows += [(raw, "udp"), (raw, "tcp")]
+        for given, transport in rows:
+            assert said(given, transport) == (2, "bind"), (given, transport)
+
+
+def test_a_stopped_and_continued_server(programs, zone):
+    with many(programs, zone) as server, connected(MANY) as client:
+        for _ in range(5):
+            server.run.send_signal(signal.SIGSTOP)
+            client.sendall(framed(MESSAGES[0]))
+            server.run.send_signal(signal.SIGCONT)
+            assert frame_of(client)[:2] == MESSAGES[0][:2]
+        assert server.end() == (0, [])

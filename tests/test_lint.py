@@ -1,31 +1,403 @@
-"""bin/zonelint: files in BIND's form, rules, baselines, remedies that are written, and which zones are checked. tests/test-lint has
-the messages for each fault."""
+"""bin/zonelint: the message and the remedy for each kind of fault, pairs of mistakes, inputs, formats, files in BIND's
+form, rules, baselines, serials, and costs. zonecheck must report the same faults, and pass the zone that is corrected
+as the message says."""
+import itertools
 import json
 import os
+import pty
+import re
+import select
+import shutil
 import subprocess
+import tempfile
+import urllib.parse
+import xml.etree.ElementTree
+from pathlib import Path
 
 import pytest
 import servers
+from servers import TOP, run
 
+LINT, DATA = TOP / "bin" / "zonelint", TOP / "tests" / "data"
 GOOD = "$TTL 1h\n@ SOA ns h 2026112301 2h 15m 2w 1h\n@ NS ns\n@ NS ns.example.net.\nns A 192.0.2.1\n"
+# A good zone as zoneserve serves it.
+SERVED = "$TTL 60\n@ SOA ns h 1 60 5 600 60\n@ NS ns\n@ NS ns.example.net.\nns A 192.0.2.1\n"
+FAULTY = (TOP / "examples" / "faulty.zone").read_text()
+# `lines`: for each fault its code, a part of zonelint's message, the faulty lines that are added to a good zone, and
+# the lines corrected as the message or docs/CODES.md says. `files`: a code, a faulty file, and the corrected one.
+# `reports`: a file, and all faults that zonelint reports, each with its line. `bind`: lines in BIND's form, and the
+# code of what is wrong. `says`: the same, and a part of the message. `together`: mistakes that are not made in one
+# zone, since in one RRset or on one line they make other faults.
+CASES = json.loads((DATA / "faults.json").read_text())
+
+
+def found_in(said, kinds="."):
+    """The codes that were printed, each with its line."""
+    return [(code, int(line)) for line, code in re.findall(rf"^\S.*?:(\d+): ({kinds}\d\d): ", said, re.M)]
 
 
 @pytest.fixture
 def lint(programs, tmp_path, monkeypatch):
-    """Runs zonelint in an empty folder. Returns the status, the codes with their lines, and all that it prints."""
+    """Runs zonelint in an empty folder, with `text` as the file z, or as its input if it is `given`. Returns the
+    status, the codes with their lines, and all that it prints."""
     monkeypatch.chdir(tmp_path)
-    path = f"{programs}:{os.environ['PATH']}"
 
-    def run(*words, text=None):
+    def lint(*words, text=None, given=None):
         if text is not None:
             (tmp_path / "z").write_bytes(text if isinstance(text, bytes) else text.encode())
-        how = {"capture_output": True, "env": {**os.environ, "PATH": path}, "timeout": 60}
-        done = subprocess.run([servers.TOP / "bin" / "zonelint", *words], **how)
-        said = done.stdout.decode()
-        found = [(line.split(": ")[1], int(line.split(":")[1])) for line in said.splitlines()
-                 if line[:1] != " " and line.count(": ") > 1 and line.split(":")[1].isdigit()]
-        return done.returncode, found, said + done.stderr.decode()
-    return run
+        done = run(LINT, *words, input=given or b"", text=False)
+        said = (done.stdout + done.stderr).decode()
+        return done.returncode, found_in(said), said
+    return lint
+
+
+def zonecheck(text):
+    """The status of zonecheck for a zone, and the codes that it prints."""
+    Path("checked").write_bytes(text)
+    done = run("zonecheck", "example", "checked")
+    return done.returncode, set(re.findall(r"\b[RZ]\d\d$", done.stdout + done.stderr, re.M))
+
+
+@pytest.mark.parametrize("code, says, broken, mended", CASES["lines"])
+def test_a_faulty_line(lint, code, says, broken, mended):
+    broken, mended = (f"{SERVED}{lines}\n".encode("latin-1") for lines in (broken, mended))
+    status, found, said = lint("--served", "example", "-", given=broken)
+    also = {"Z09": {"Z10"}}.get(code, set())
+    assert status == 1 and {one for one, _ in found if one[0] in "RZ"} == {code, *also} and says in said
+    assert zonecheck(broken)[0] == 1 and (code in zonecheck(broken)[1] or not says.endswith("of line 6"))
+    assert zonecheck(mended) == (0, set())
+
+
+@pytest.mark.parametrize("code, broken, mended", CASES["files"])
+def test_a_faulty_file(lint, code, broken, mended):
+    status, codes = zonecheck(broken.encode("latin-1"))
+    assert status == 1 and code in codes and zonecheck(mended.encode("latin-1")) == (0, set())
+
+
+def test_another_origin_and_too_much(lint):
+    assert zonecheck(b"$ORIGIN other.\n" + SERVED.encode()) == (1, {"Z01", "Z03", "Z04", "Z05"})
+    many = SERVED + "".join(f"w{number} A 192.0.2.2\n" for number in range(99_997))
+    assert zonecheck(many.encode()) == (1, {"R14"}) and zonecheck(many[:many.rindex("w")].encode()) == (0, set())
+    assert zonecheck(SERVED.encode() + b"\n" * 16_777_217) == (1, {"R15"})
+    assert zonecheck(SERVED.encode() + b"\n" * 996) == (0, set())
+
+
+@pytest.mark.parametrize("text, wanted", CASES["reports"])
+def test_all_faults_of_a_file(lint, text, wanted):
+    status, found, said = lint("--served", "example", "-", given=text.encode("latin-1"))
+    assert (status, ", ".join(f"{line} {code}" for code, line in found if code[0] in "RZ")) == (1, wanted), said
+
+
+# ---- mistakes
+
+def mistakes():
+    """The sound zone of tests/data/mistakes, and each mistake there: its title, its kind, and the lines that it takes
+    out and adds."""
+    sound, *cases = [[line for line in case.split("\n") if line]
+                     for case in (DATA / "mistakes").read_text().split("\n== ")[1:]]
+    titles = [case[0].split(" ", 1) for case in cases]
+    return sound[1:], [(title, kind, [line[2:] for line in lines if line[:2] == "- "],
+                        [line for line in lines if line[:2] != "- "])
+                       for (kind, title), (_, *lines) in zip(titles, cases)]
+
+
+def mistaken(sound, *cases):
+    out = {line for case in cases for line in case[2]}
+    return "\n".join([*(line for line in sound if line not in out), *(line for case in cases for line in case[3]), ""])
+
+
+def test_mistakes_alone_and_in_pairs(lint):
+    """In a zone with two mistakes, all messages for either one alone are given too."""
+    def found(zones):
+        for number, text in enumerate(zones):
+            Path(f"z{number}").write_text(text)
+        Path("list").write_text("".join(f"example.com z{number}\n" for number in range(len(zones))))
+        sets = [set() for _ in zones]
+        for fault in json.loads(lint("--served", "--zones", "list", "--format", "json")[2]):
+            sets[int(fault["file"][1:])].add((fault["code"], fault["text"].strip()))
+        return sets
+
+    def belong(one, other):
+        named = [f"{case[1]} {case[0]}" for case in (one, other)]
+        return any(x in named[0] and y in named[1] or y in named[0] and x in named[1]
+                   for x, y in CASES["together"]) or one[2] and other[2]
+
+    sound, cases = mistakes()
+    assert found([mistaken(sound)]) == [set()]
+    alone = found([mistaken(sound, case) for case in cases])
+    for case, some in zip(cases, alone):
+        assert some and any(code[0] in "RZ" for code, _ in some) == (case[1] == "fault"), case
+    pairs = [pair for pair in itertools.combinations(range(len(cases)), 2)
+             if not belong(cases[pair[0]], cases[pair[1]])]
+    for (a, b), some in zip(pairs, found([mistaken(sound, cases[a], cases[b]) for a, b in pairs])):
+        assert alone[a] | alone[b] <= some, (cases[a][0], cases[b][0])
+
+
+NAMED = ["named-checkzone", "-i", "local", *(word for check in "kmMnrSTW" for word in (f"-{check}", "warn"))]
+CHECKERS = [["zonecheck", "--quiet"], [str(LINT)], NAMED, ["nsd-checkzone"], ["kzonecheck", "-o"],
+            ["validns", "-p", "all", "-z"]]
+
+
+def said_of(checker, text, origin="example.com"):
+    """The status of a checker and the set of lines that it writes about a zone, or None if the checker is not
+    installed."""
+    if not shutil.which(checker[0], path=f"{os.environ['PATH']}:/usr/sbin"):
+        return None
+    Path("example.com.zone").write_text(text, encoding="utf-8")
+    done = run(*checker, origin, "example.com.zone", encoding="latin-1")
+    lines = (done.stdout + done.stderr).splitlines()
+    return done.returncode, {line for line in lines if "loaded serial" not in line and not line.endswith("in 1 zone")}
+
+
+def table(checkers):
+    """The rows of docs/plots/mistakes.txt. `rejects`: the status is not 0. `warns`: it is 0, and there is a message
+    that the zone without mistakes does not get. `silent`: neither. `-`: the checker is not installed. The fresh
+    mistakes were made by others, before zonelint was changed for them."""
+    sound, cases = mistakes()
+    fresh = json.loads((DATA / "mistakes-fresh.json").read_text(encoding="utf-8"))
+    rows = [(title, "example.com", mistaken(sound, case), mistaken(sound)) for case in cases for title in case[:1]]
+    rows += [(f"fresh: {title}", origin, text, text.rstrip("\n").rpartition("\n")[0] + "\n")
+             for title, origin, text, _ in fresh]
+    usual = {}
+    for title, origin, text, before in rows:
+        cells = []
+        for at, checker in enumerate(checkers):
+            if (at, before) not in usual:
+                usual[at, before] = said_of(checker, before, origin)
+            found, without = said_of(checker, text, origin), usual[at, before]
+            cells.append("-" if found is None else "rejects" if found[0] else "warns" if found[1] - without[1]
+                         else "silent")
+        yield title, cells
+
+
+@pytest.mark.slow
+def test_the_table_of_mistakes(lint):
+    """docs/plots/mistakes.txt says what the checkers that are installed say."""
+    lines = (TOP / "docs" / "plots" / "mistakes.txt").read_text().splitlines()[2:]
+    for line, (title, cells) in zip(lines, table(CHECKERS), strict=True):
+        wanted = line.strip("|\n ").split(" | ")
+        is_same = all(got in ("-", one) for got, one in zip(cells, wanted[1:], strict=True))
+        assert wanted[0] == title and is_same, (line, cells)
+
+
+# ---- inputs
+
+def test_standard_input_and_pipes(lint):
+    Path("a zone").write_text(FAULTY)
+    wanted = [5, 6, 9, 10]
+    for words in (["a zone"], ["-"], ["/dev/stdin"]):
+        status, _, said = lint("--served", "example", *words, given=FAULTY.encode())
+        assert status == 1 and [line for _, line in found_in(said, "[RZ]")] == wanted
+    piped = run("bash", "-c", f'"{LINT}" --served example <(cat "a zone")')
+    assert piped.returncode == 1 and [line for _, line in found_in(piped.stdout, "[RZ]")] == wanted
+    endless = run("bash", "-c", f"yes 'www IN A 192.0.2.1' | '{LINT}' --served example -")
+    assert endless.returncode == 1 and " R14: " in endless.stdout
+
+
+def test_several_zones(lint):
+    Path("a zone").write_text(FAULTY)
+    Path("zones").write_text("# zones\nexample z\n\nexample  a zone\n")
+    assert lint("--served", "example", "z", "example", "a zone", text=SERVED)[0] == 1
+    assert lint("--served", "--zones", "zones")[0] == 1
+    status, _, said = lint("--served", "example", "nowhere", "example", "a zone")
+    assert status == 2 and len(found_in(said, "[RZ]")) == 4 and said.count("nowhere") == 1
+
+
+@pytest.mark.parametrize("words", [
+    "example nowhere", "example .", "a..b z", "example", "", "--format x example z", "--zones nowhere",
+    "example - example -", " z", "--serial nothing example z", "--serial HEAD example -"])
+def test_bad_calls(lint, words):
+    (Path.cwd() / "z").write_text(SERVED)
+    done = run(LINT, "--served", *(words.split(" ") if words else []), input="")
+    assert (done.returncode, done.stdout) == (2, "") and done.stderr
+
+
+def test_octets_that_control_a_terminal(lint):
+    Path("e\x1b[31m\n").write_bytes(b"\x1b]0;x\x07 A 192.0.2.1\nb\xff\x9b A \x1b[2J\n" + FAULTY.encode())
+    status, found, said = lint("--served", "example", "e\x1b[31m\n")
+    assert status == 1 and re.fullmatch(r"[\n -~]+", said) and len(found_in(said, "[RZ]")) > 4
+
+
+@pytest.mark.parametrize("words", ["zonelint example z", "zonelint --format json example z", "zoneimport example z"])
+def test_an_output_that_is_closed_or_full(lint, words):
+    Path("z").write_text(SERVED)
+    closed = run("bash", "-c", 'exec "$@" >&-', "-", *words.split())
+    assert (closed.returncode, closed.stderr) == (2, f"{words.split()[0]}: standard output is closed\n")
+    Path("z").write_text(FAULTY)
+    with open("/dev/full", "w") as full:
+        done = subprocess.run(words.split(), stdout=full, stderr=subprocess.DEVNULL)
+    assert done.returncode == (1 if "import" in words else 2)
+
+
+def test_many_faults(lint):
+    status, _, said = lint("--served", "example", "z", text=SERVED
+                           + "".join(f"w{i} A 192.0.2.256\n" for i in range(150)))
+    assert status == 1 and found_in(said, "[RZ]") == [("R13", i) for i in range(6, 106)]
+    assert said.endswith("\nz: 100 faults are reported, and there may be more\n100 errors, 0 warnings in 1 zone\n")
+
+
+def test_the_status_is_that_of_zonecheck(lint):
+    for zone in [*(TOP / "examples").glob("*.zone"), *DATA.glob("*.zone")]:
+        wanted = run("zonecheck", "--quiet", "example.com", zone).returncode
+        assert lint("--served", "--select", "Z", "example.com", str(zone))[0] == wanted, zone
+
+
+def test_a_pipe_without_a_writer(lint):
+    """On a terminal, zonelint says that it waits for what is written to a pipe."""
+    os.mkfifo("pipe")
+    ours, theirs = pty.openpty()
+    with subprocess.Popen([LINT, "example", "pipe"], stdout=subprocess.DEVNULL, stderr=theirs) as waiting:
+        assert select.select([ours], [], [], 30)[0] and b"pipe is a pipe: waiting" in os.read(ours, 1000)
+        Path("pipe").write_text(SERVED)
+    assert waiting.returncode == 0
+
+
+# ---- formats
+
+def read_forms(name):
+    """For each format, the file, the line and the code of each fault of a file, read by a parser of that format."""
+    def read(form):
+        return run(LINT, "--served", "--format", form, "example", name).stdout
+
+    def unquoted(uri):
+        return os.fsdecode(urllib.parse.unquote_to_bytes(uri))
+
+    github = re.findall(r"^::(?:error|warning) file=(.*),line=(\d+),title=([RZW]\d\d)::[^\n]+$", read("github"), re.M)
+    gitlab, sarif = json.loads(read("gitlab")), json.loads(read("sarif"))["runs"][0]["results"]
+    places = [result["locations"][0]["physicalLocation"] for result in sarif]
+    files = xml.etree.ElementTree.fromstring(read("checkstyle"))
+    assert len({fault["fingerprint"] for fault in gitlab}) == len(gitlab)
+    assert {fault["severity"] for fault in gitlab} == {"major", "minor"}
+    return {
+        "json": [(fault["file"], fault["line"], fault["code"]) for fault in json.loads(read("json"))],
+        "github": [(file, int(line), code) for file, line, code in github],
+        "gitlab": [(fault["location"]["path"], fault["location"]["lines"]["begin"], fault["check_name"])
+                   for fault in gitlab],
+        "sarif": [(unquoted(place["artifactLocation"]["uri"]), place["region"]["startLine"], result["ruleId"])
+                  for place, result in zip(places, sarif)],
+        "checkstyle": [(file.get("name"), int(error.get("line")), error.get("source")[-3:]) for file in files
+                       for error in file]}
+
+
+@pytest.mark.parametrize("name, spelled", [
+    ('a "<&%\n,:zone', {"github": 'a "<&%25%0A%2C%3Azone'}),
+    (os.fsdecode(b"\xff\x1b[31m\xc3\xbc.zone"),
+     {"json": "\\255\x1b[31m\u00fc.zone", "gitlab": "\\255\x1b[31m\u00fc.zone"})])
+def test_formats_and_names_of_files(lint, name, spelled):
+    Path(name).write_text(FAULTY)
+    for form, found in read_forms(name).items():
+        assert [one[1:] for one in found] == [(5, "Z10"), (6, "Z11"), (9, "Z06"), (10, "Z06"), (8, "W45")], form
+        files = {one[0] for one in found}
+        assert form in ("github", "checkstyle") and form not in spelled or files == {spelled.get(form, name)}
+    for form in ("text", "github", "checkstyle"):
+        assert re.fullmatch(r"[\n -~]+", lint("--served", "--format", form, "example", name)[2])
+
+
+def test_a_zone_without_faults_in_each_format(lint):
+    for form in ("json", "gitlab", "sarif", "checkstyle", "github"):
+        status, _, said = lint("--served", "--format", form, "example", "z", text=SERVED)
+        assert status == 0 and (form != "json" or json.loads(said) == [])
+    assert lint("--served", "--strict", "example", "z")[0] == 0
+    assert lint("--served", "example", "z", text=SERVED + "x CNAME nowhere\n")[0] == 0
+    assert lint("--served", "--strict", "example", "z")[0] == 1
+
+
+# ---- serials
+
+@pytest.fixture
+def git(lint):
+    """Runs git in a repository in which example.com.zone is committed with the serial 4294967295."""
+    def git(*words):
+        assert run("git", "-c", "user.name=a", "-c", "user.email=a@b", "-c", "commit.gpgsign=false",
+                   *words).returncode == 0
+    Path("example.com.zone").write_text(SERVED.replace("h 1", "h 4294967295"))
+    for words in (["init", "-q", "."], ["add", "."], ["commit", "-qm", "one"]):
+        git(*words)
+    return git
+
+
+@pytest.mark.parametrize("serial, more, wanted", [
+    (4294967295, "", []), (4294967295, "x A 192.0.2.2\n", [("C01", 2)]), (5, "x A 192.0.2.2\n", []),
+    (4294967294, "x A 192.0.2.2\n", [("C01", 2)]), (4294967295, "x A 192.0.2.300\n", [("R13", 6), ("C01", 2)])])
+def test_serials(lint, git, serial, more, wanted):
+    Path("example.com.zone").write_text(SERVED.replace("h 1", f"h {serial}") + more)
+    status, _, said = lint("--served", "--serial", "HEAD", "example", "example.com.zone")
+    assert (status, found_in(said, "[RZC]")) == (bool(wanted), wanted)
+    assert lint("--served", "--serial", "HEAD", "example", "z", text=SERVED)[0] == 0
+
+
+def test_the_hook_of_git(lint, git):
+    """contrib/pre-commit checks what is staged, and not what is beside it."""
+    Path("z").write_text(SERVED)
+    Path("zones").write_text("# the zones\nexample example.com.zone\nexample z\n")
+    for staged, beside, wanted in ((SERVED + "x A 192.0.2.256\n", SERVED, 1), (SERVED + "x A 192.0.2.25\n", "x", 0)):
+        Path("example.com.zone").write_text(staged)
+        git("add", "example.com.zone")
+        Path("example.com.zone").write_text(beside)
+        done = run(TOP / "contrib" / "pre-commit")
+        assert done.returncode == wanted and ("example.com.zone:6: R13: " in done.stdout) == wanted
+    Path("example.com.zone").write_text(SERVED + "x A 192.0.2.256\n")
+    git("add", "example.com.zone")
+    for listed, said in (("example example.com.zone\r\n", "example.com.zone:6: R13: "),
+                         ("example example.zone\n", "zones lists 'example.zone' for example"), ("example\n", "''")):
+        Path("zones").write_text(listed)
+        done = run(TOP / "contrib" / "pre-commit")
+        assert done.returncode == 1 and said in done.stdout + done.stderr
+
+
+# ---- files in BIND's form
+
+def test_lines_of_files_in_the_form_of_bind(lint):
+    """Faults are reported with the lines of the files that a zone consists of."""
+    Path("part").write_text("a A 192.0.2.2\nb A 192.0.2.300\n")
+    text = GOOD.replace("$TTL 1h", "$TTL 1m") + '@ CAA 0 issue ";"\n$INCLUDE part\n$GENERATE 1-3 g$ A 192.0.2.25$\n'
+    status, _, said = lint("example", "z", text=text)
+    assert status == 1 and re.findall(r"^(\w+:\d+: R\d\d)", said, re.M) == ["part:2: R13"]
+    found = lint("example", "z", text=SERVED + "$GENERATE 5-7 g$ A 192.0.2.25$\n@ NS sub\n")[1]
+    assert sorted(set(one for one in found if one[0][0] in "RZ")) == [("R13", 6), ("Z10", 7)]
+
+
+def seconds_of(words):
+    """The status of a run, its processor time in seconds, its peak memory in MB, and what it prints."""
+    with tempfile.TemporaryFile("w+") as said:
+        child = subprocess.Popen([str(word) for word in words], stdout=said, stderr=subprocess.DEVNULL)
+        _, status, used = os.wait4(child.pid, 0)
+        child.returncode = os.waitstatus_to_exitcode(status)
+        said.seek(0)
+        return child.returncode, used.ru_utime + used.ru_stime, used.ru_maxrss / 1024, said.read()
+
+
+def test_one_fault_many_times(lint):
+    Path("z").write_text(SERVED + "$GENERATE 1-50000 a$ A 192.0.2.300\n@ NS sub\n"
+                         + "".join(f"b{i} A 192.0.2.1$\n" for i in range(300)))
+    _, seconds, _, said = seconds_of([LINT, "example", "z"])
+    found = found_in(said, "[RZ]")
+    assert found[0] == ("R13", 6) and found[1][1] == 8 and seconds < 30
+
+
+@pytest.mark.parametrize("faults, limit", [(0, 3), (50, 15)])
+def test_the_time_for_100_000_records(lint, faults, limit):
+    lines = [f"h{i} A {'298' if faults and i % 2000 == 7 else '198'}.51.{i // 256 % 256}.{i % 256}\n"
+             for i in range(99990)]
+    Path("z").write_text(SERVED + "".join(lines))
+    _, seconds, _, said = seconds_of([LINT, "--served", "example", "z"])
+    assert len(found_in(said, "[RZ]")) == faults and seconds < limit
+
+
+LONG = [f'h{i} TXT "{"x" * 148}"\n' for i in range(99990)]
+
+
+@pytest.mark.parametrize("text, wanted", [
+    ("\n" * 16777216, 2), ("(" * 16777216, 2), (None, 1), (SERVED + ";23456789012345\n" * 986000, 0),
+    (SERVED + "".join(LONG[:99000] + [line.replace("TXT", "A") for line in LONG[99000:]]), 1)],
+    ids=["newlines", "one line", "octets", "comments", "late faults"])
+@pytest.mark.slow
+@pytest.mark.parametrize("program", ["zonelint", "zoneimport"])
+def test_files_of_16_mib(lint, program, text, wanted):
+    """They take at most 20 s of the processor and 400 MB, or are refused."""
+    Path("z").write_bytes(os.urandom(16777216) if text is None else text.encode())
+    status, seconds, megabytes, _ = seconds_of([TOP / "bin" / program, "example", "z"])
+    assert status == wanted and seconds < 20 and megabytes < 400
 
 
 def test_files_in_the_form_of_bind_pass(lint):
@@ -34,8 +406,8 @@ def test_files_in_the_form_of_bind_pass(lint):
 
 
 def test_what_only_other_servers_serve_is_noted(lint):
-    signed = "@ DNSKEY 257 3 13 ( aaaa\n bbbb )\n RRSIG NS 13 1 60 20260101000000 20250101000000 1 @ aaaa\n A 192.0.2.3\ns NS n.s\n" \
-        "s DS 1 8 2 aabb\nn.s A 192.0.2.2\nd DNAME x.example.net.\n@ MX 1 a.d\n"
+    signed = ("@ DNSKEY 257 3 13 ( aaaa\n bbbb )\n RRSIG NS 13 1 60 20260101000000 20250101000000 1 @ aaaa\n"
+              " A 192.0.2.3\ns NS n.s\ns DS 1 8 2 aabb\nn.s A 192.0.2.2\nd DNAME x.example.net.\n@ MX 1 a.d\n")
     status, found, said = lint("example", "z", text=GOOD + signed)
     assert (status, found) == (0, [("N01", 1), ("N01", 1)])
     assert "3 records of DNSSEC (DNSKEY, RRSIG, DS) were not checked" in said
@@ -44,14 +416,7 @@ def test_what_only_other_servers_serve_is_noted(lint):
     assert lint("--strict", "--error", "N02", "example", "z")[0] == 1
 
 
-@pytest.mark.parametrize("line, code", [
-    ("h SSHFP 1 1 aabb", "R11"), ('n NAPTR 1 1 "u" "E2U+sip" "!^.*$!sip:a@b" .', "R11"),
-    ('n NAPTR 1 1 "u" "E2U+sip" "!^(.*$!sip:a@b!" .', "R11"), ('n NAPTR 1 1 "u" "E2U+sip" "!^.*$!\\\\1!" .', "R11"),
-    ('n NAPTR 1 1 "u" "E2U+sip" "!^.*\\000$!a!" .', "R11"), ("_h._tcp URI 1 1 https://x/", "R11"),
-    ('@ CAA 0 "issue" "x"', "R11"), ("x X25 abc", "R11"), ("x NSAP 0x123", "R11"), ("_25._tcp TLSA 3 1 1 aabb", "W59"),
-    ('@ CAA 0 iodef "security@example.com"', "W58"), ('t TXT "v=spf1 ip4:192.0.2.1 +all"', "W56"),
-    ('_dmarc TXT "v=DMARC1; p=block"', "W57"), ("h A 127.0.0.1", "W48"), ("_s._tcp SRV 1 1 0 ns", "W38"),
-    ("_s._tpc SRV 1 1 5 ns", "W36"), ("x CNAME ns.example.example.", "W31")])
+@pytest.mark.parametrize("line, code", CASES["bind"])
 def test_no_false_ok(lint, line, code):
     _, found, said = lint("example", "z", text=GOOD + line + "\n")
     assert (code, 6) in found, said
@@ -81,13 +446,15 @@ def test_explain_and_version(lint):
     status, _, said = lint("--explain", "w31")
     assert status == 0 and "final dot" in said
     assert lint("--explain", "W99")[0] == 2
-    assert lint("--version")[2] == f"zonelint {(servers.TOP / 'VERSION').read_text()}"
+    assert lint("--version")[2] == f"zonelint {(TOP / 'VERSION').read_text()}"
 
 
 def test_a_baseline_hides_what_it_lists(lint):
     assert lint("--write-baseline", "old", "example", "z", text=GOOD + "a CNAME b\nb CNAME ns\n")[0] == 0
-    assert lint("--baseline", "old", "example", "z", text="; a line more\n" + GOOD + "a CNAME b\nb CNAME ns\n")[:2] == (0, [])
-    assert lint("--baseline", "old", "example", "z", text=GOOD + "a CNAME b\nb CNAME ns\nx A 192.0.2.300\n")[1] == [("R13", 8)]
+    assert lint("--baseline", "old", "example", "z", text="; a line more\n" + GOOD
+                + "a CNAME b\nb CNAME ns\n")[:2] == (0, [])
+    assert lint("--baseline", "old", "example", "z", text=GOOD
+                + "a CNAME b\nb CNAME ns\nx A 192.0.2.300\n")[1] == [("R13", 8)]
     assert lint("--baseline", "z", "example", "z")[0] == 2
 
 
@@ -103,15 +470,20 @@ def test_remedies_that_are_sure_are_written(lint, tmp_path):
 
 def test_which_zones_are_checked(lint, tmp_path):
     rooted = GOOD.replace("@ SOA", "$ORIGIN own.example.\n@ SOA")
-    for name, text in {"example.com.zone": GOOD, "db.example.org": GOOD, "192.0.2.db": GOOD, "notes.txt": "no zone", "z.zone": rooted}.items():
+    for name, text in {"example.com.zone": GOOD, "db.example.org": GOOD, "192.0.2.db": GOOD, "notes.txt": "no zone",
+                       "z.zone": rooted}.items():
         (tmp_path / name).write_text(text)
-    for words, count in [(["example.com.zone"], 1), ([".", "z.zone"], 1), (["./"], 4), (["example.com.zone", "db.example.org"], 2)]:
+    for words, count in [(["example.com.zone"], 1), ([".", "z.zone"], 1), (["./"], 4),
+                         (["example.com.zone", "db.example.org"], 2)]:
         status, _, said = lint("--error", "W01", *words, text="")
         assert "Z01" not in said or words == [".", "z.zone"], said
-    (tmp_path / "named.conf").write_text('options { directory "%s"; };\n// a comment\nzone "example.com" IN { type primary; '
-                                         'file "example.com.zone"; };\nzone "." { type hint; file "x"; };\n' % tmp_path)
-    (tmp_path / "nsd.conf").write_text('server:\n  zonesdir: "%s"\nzone:\n  name: example.com\n  zonefile: "example.com.zone" # c\n' % tmp_path)
-    (tmp_path / "knot.conf").write_text("template:\n  - id: default\n    storage: %s\nzone:\n  - domain: example.com\n    file: %%s.zone\n" % tmp_path)
+    (tmp_path / "named.conf").write_text(
+        f'options {{ directory "{tmp_path}"; }};\n// a comment\nzone "example.com" IN {{ type primary; '
+        'file "example.com.zone"; };\nzone "." { type hint; file "x"; };\n')
+    (tmp_path / "nsd.conf").write_text(
+        f'server:\n  zonesdir: "{tmp_path}"\nzone:\n  name: example.com\n  zonefile: "example.com.zone" # c\n')
+    (tmp_path / "knot.conf").write_text(
+        f"template:\n  - id: default\n    storage: {tmp_path}\nzone:\n  - domain: example.com\n    file: %s.zone\n")
     (tmp_path / "example.com.zone").write_text(GOOD + "x A 192.0.2.300\n")
     for settings in ["named.conf", "nsd.conf", "knot.conf"]:
         assert lint("--named-conf", settings)[:2] == (1, [("R13", 6)])
@@ -152,11 +524,12 @@ def test_formats(lint):
     assert len(run["results"]) == 21 and all(rule["help"]["text"] for rule in run["tool"]["driver"]["rules"])
     assert all(run["tool"]["driver"]["rules"][one["ruleIndex"]]["id"] == one["ruleId"] for one in run["results"])
     before = {one["fingerprint"] for one in json.loads(lint("--format", "gitlab", "example", "z")[2])}
-    after = {one["fingerprint"] for one in json.loads(lint("--format", "gitlab", "example", "z", text=";\n" + text)[2])}
+    after = {one["fingerprint"]
+             for one in json.loads(lint("--format", "gitlab", "example", "z", text=";\n" + text)[2])}
     assert before == after and len(before) == 21
 
 
-@pytest.mark.needs("named-checkzone")
+@pytest.mark.peers("named-checkzone")
 def test_bind_is_asked_too(lint):
     status, found, said = lint("--server", "bind", "example", "z", text=GOOD + "$TTL 2h")
     assert status == 1 and "B01" in dict(found) and "BIND says: " in said
@@ -169,14 +542,20 @@ def test_what_nsd_and_knot_do_not_read(lint, line):
     assert ("K01", 6) in lint("--server", "knot", "example", "z")[1]
 
 
-@pytest.mark.parametrize("line, says", [
-    ("$TTL 1 hour", "write $TTL 3600"), ("$ORIGIN = x.", "write $ORIGIN x."), ("h A ::ffff:192.0.2.9", "write 192.0.2.9"),
-    ("h TXT ( \"a\" ; minimum )", "write it before the ;"), ("@ MX 10mail", "write MX 10 mail"),
-    ("@ NS ns1 ns2", "a record for each"), ("@ MX 10 a 20 b", "a record for each"), ("h HNFO a b", "write HINFO"),
-    ("h CDNSKY 1 2 3 aaaa", "write CDNSKEY"), ("@ CNAME a b", "a comment begins with ;")])
+@pytest.mark.parametrize("line, says", CASES["says"])
 def test_remedies(lint, line, says):
     assert says in lint("example", "z", text=GOOD + line + "\n")[2]
 
 
 def test_a_mailbox_with_a_dot(lint):
     assert "write john\\.doe.example." in lint("example", "z", text=GOOD.replace(" h ", " john.doe@example. "))[2]
+
+
+if __name__ == "__main__":
+    # Prints docs/plots/mistakes.txt: `PATH=PROGRAMS:$PATH tests/test_lint.py`.
+    with tempfile.TemporaryDirectory() as folder:
+        os.chdir(folder)
+        print("| Mistake |" + "".join(f" `{Path(checker[0]).name}` |" for checker in CHECKERS))
+        print("|---" * (len(CHECKERS) + 1) + "|")
+        for title, cells in table(CHECKERS):
+            print(f"| {title} |" + "".join(f" {cell} |" for cell in cells))

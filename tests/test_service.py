@@ -1,9 +1,9 @@
-"""libexec/workers: starts, reloads under load, faulty and missing files, workers that end, clients that stay, and ends."""
+"""libexec/workers: starts, reloads under load, faulty and missing files, workers that end, clients that stay, and
+ends."""
 import os
 import signal
 import socket
 import subprocess
-import sys
 import threading
 import time
 
@@ -33,23 +33,8 @@ def run(programs, tmp_path):
     return lambda **how: Workers(programs, tmp_path, HERE, ORIGIN, file, **how)
 
 
-class Steady:
-    """Asks during the body, over UDP at a steady rate, and over TCP with a new connection for each question."""
-
-    def __init__(self, rate=5_000, connections=500):
-        steadily = [servers.TOP / "bench" / "steadily", *map(str, HERE), ORIGIN, str(rate), str(connections)]
-        self.words = [sys.executable, *map(str, steadily)]
-
-    def __enter__(self):
-        self.client = subprocess.Popen(self.words, stdin=subprocess.PIPE, stdout=subprocess.PIPE, text=True)
-        assert self.client.stdout.readline() == "begun\n"
-        time.sleep(0.5)
-        return self
-
-    def __exit__(self, *_):
-        fields = self.client.communicate("\n", timeout=60)[0].split()
-        self.lost, self.asked, self.lost_tcp, self.asked_tcp, *self.longest = map(int, fields[:6])
-        self.serials = [int(field) for field in fields[6:]]
+def steady(*rates):
+    return servers.Steady(HERE, ORIGIN, *rates)
 
 
 def test_start_and_end(run):
@@ -70,7 +55,7 @@ def test_reloads_lose_nothing(run, records):
     with run() as workers:
         write(workers.file, 1, more)
         assert workers.reload() == 0
-        with Steady() as client:
+        with steady() as client:
             for serial in range(2, 22):
                 write(workers.file, serial, more)
                 assert workers.reload() == 0, workers.log()
@@ -195,7 +180,7 @@ def test_workers_that_end(run):
 def test_turns(run):
     """A worker that has handled its turns is followed by another."""
     with run(TURNS="100") as workers:
-        with Steady(rate=300, connections=20) as client:
+        with steady(300, 20) as client:
             time.sleep(3)
         assert client.lost_tcp == 0 and client.lost <= 0, f"{client.lost} of {client.asked}"
 

@@ -1,6 +1,5 @@
-/* A preloaded allocator that refuses one request to `malloc` or `realloc`. The environment variable REFUSE is the number of that
-   request, counted from 1. With a plus after the number, all later requests are refused too. When a request is refused, the file
-   that the environment variable REFUSED names is created. */
+/* A preloaded allocator that refuses request REFUSE to `malloc` or `realloc`, counted from 1; with a plus after the number, all later
+   requests too. When a request is refused, the file REFUSED is created. */
 #define _GNU_SOURCE
 #include <dlfcn.h>
 #include <errno.h>
@@ -12,8 +11,7 @@
 static int is_refused(void)
 {
     static long number;
-    const char *wanted = getenv("REFUSE");
-    const char *mark = getenv("REFUSED");
+    const char *wanted = getenv("REFUSE"), *mark = getenv("REFUSED");
     if (!wanted || ++number < atol(wanted) || (number > atol(wanted) && !strchr(wanted, '+')))
         return 0;
     if (mark)

@@ -1,0 +1,658 @@
+"""bin/zonecompare with a small server here, which answers by RFC 1034 4.3.2 from a zone that dnspython reads, without
+zoneserve or zonecompare, and whose replies each row of WRONG or ALLOWED changes; with zoneserve; and with other
+servers, if they are installed."""
+import concurrent.futures
+import contextlib
+import json
+import os
+import pty
+import re
+import resource
+import signal
+import socket
+import subprocess
+import sys
+import threading
+import time
+import types
+
+import dns.exception
+import dns.flags
+import dns.message
+import dns.query
+import dns.rcode
+import dns.rdatatype
+import dns.rrset
+import pytest
+import servers
+from servers import TOP, Serving, until
+from test_hostile import Server
+
+sys.path.insert(0, str(TOP / "bench"))
+import rivals  # noqa: E402
+
+COMPARE, DATA = TOP / "bin" / "zonecompare", TOP / "tests" / "data"
+AA, TC, RA = dns.flags.AA, dns.flags.TC, dns.flags.RA
+ZONE = (DATA / "compare.zone").read_text()
+# A chain of 18 aliases, of which the proved reply follows 16; and a name of 251 octets, below which no name fits.
+LONG = ZONE + "".join(f"c{at} CNAME c{at + 1}\n" for at in range(18)) + "c18 A 192.0.2.18\n" + "a." * 120 + "b TXT a\n"
+
+
+class Raw(bytes):
+    """Octets that are sent as they are: over TCP without their length, and then the connection ends."""
+
+
+class Elsewhere(bytes):
+    """A reply that is sent from another port."""
+
+
+class Small:
+    """A server on loopback, over UDP and TCP. `wrong` gets each right reply, the name and type of its question, and
+    whether it came over TCP. It changes the reply and returns a true value; or returns what to send instead; or b""
+    for nothing. `asked` are the questions that came, and `changed` those whose replies were changed. `most` is the
+    most that waited at once."""
+
+    def __init__(self, text, wrong=None, host="127.0.0.1", origin="example.", edns=True, pause=0):
+        self.right, self.wrong, self.edns, self.pause = Server(text, origin, all_types=True), wrong, edns, pause
+        self.asked, self.changed, self.now, self.most = [], set(), 0, 0
+        family = socket.AF_INET6 if ":" in host else socket.AF_INET
+        self.udp, self.other = (socket.socket(family, socket.SOCK_DGRAM) for _ in range(2))
+        self.port = 0
+        while not self.port:
+            self.tcp = socket.create_server((host, 0), family=family)
+            try:
+                self.udp.bind((host, self.tcp.getsockname()[1]))
+                self.port = self.tcp.getsockname()[1]
+            except OSError:  # The port is free for TCP, but not for UDP.
+                self.tcp.close()
+        self.udp.setsockopt(socket.SOL_SOCKET, socket.SO_RCVBUF, 1 << 20)
+        self.address = f"[{host}]:{self.port}" if ":" in host else f"{host}:{self.port}"
+        for target in (self.over_udp, self.over_tcp):
+            threading.Thread(target=target, daemon=True).start()
+
+    def reply(self, wire, tcp):
+        query = dns.message.from_wire(wire)
+        reply = dns.message.make_response(query)
+        question = query.question[0].name.to_text(), dns.rdatatype.to_text(query.question[0].rdtype)
+        self.asked.append(question)
+        if query.edns >= 0 and not self.edns:
+            reply = dns.message.make_response(query)
+            reply.use_edns(False)
+            reply.set_rcode(dns.rcode.FORMERR)
+            return [reply.to_wire()]
+        self.fill(reply)
+        out = self.wrong(reply, *question, tcp) if self.wrong else None
+        if out or out == b"":
+            self.changed.add(question)
+        return out if isinstance(out, list) else [out if isinstance(out, bytes) else reply.to_wire(max_size=65535)]
+
+    def fill(self, reply):
+        """Makes this the right reply."""
+        name, rtype = reply.question[0].name, reply.question[0].rdtype
+        if not name.is_subdomain(self.right.origin):
+            reply.set_rcode(dns.rcode.REFUSED)
+            return
+        sets, _, rcode, is_ours = self.right.sets(name, rtype)
+        reply.flags |= AA if is_ours else 0
+        reply.set_rcode(rcode)
+        for section, one in sets:
+            reply.sections[section].append(one)
+
+    def over_udp(self):
+        while True:
+            wire, source = self.udp.recvfrom(65535)
+            threading.Thread(target=self.send, args=(wire, source), daemon=True).start()
+
+    def send(self, wire, source):
+        self.now += 1
+        self.most = max(self.most, self.now)
+        time.sleep(self.pause)
+        self.now -= 1
+        for out in self.reply(wire, False):
+            if out:
+                (self.other if isinstance(out, Elsewhere) else self.udp).sendto(out, source)
+
+    def over_tcp(self):
+        while True:
+            client, _ = self.tcp.accept()
+            with client, contextlib.suppress(OSError), client.makefile("rb") as source:
+                wire = source.read(int.from_bytes(source.read(2), "big"))
+                for out in self.reply(wire, True):
+                    client.sendall(out if isinstance(out, Raw) else len(out).to_bytes(2, "big") + out if out else b"")
+                if out == b"":
+                    time.sleep(2.5)
+
+
+def rrset(text):
+    owner, ttl, rtype, data = text.split(" ", 3)
+    return dns.rrset.from_text(owner, int(ttl), "IN", rtype, data)
+
+
+def when(holds, then):
+    """A change of the replies of which `holds` is true, given the reply, the name and the type."""
+    return lambda reply, name, rtype, tcp: then(reply) if holds(reply, name, rtype) else None
+
+
+def at(*questions, then):
+    """A change of the replies to these questions, `NAME TYPE` each."""
+    return when(lambda _, name, rtype: f"{name} {rtype}" in questions, then)
+
+
+def under(parent, then):
+    """A change of the replies for names that the wildcard below a name covers."""
+    return when(lambda _, name, rtype: name.endswith(f".{parent}") and "*" not in name, then)
+
+
+def code(name):
+    """Makes the reply one without records, with this RCODE."""
+    def then(reply):
+        reply.answer, reply.authority, reply.additional = [], [], []
+        reply.set_rcode(dns.rcode.from_text(name))
+        return True
+    return then
+
+
+def put(section, *texts, keep=False):
+    """Makes these the records of a section, or adds them."""
+    def then(reply):
+        setattr(reply, section, [*(getattr(reply, section) if keep else []), *map(rrset, texts)])
+        return True
+    return then
+
+
+def flip(bits):
+    def then(reply):
+        reply.flags ^= bits
+        return True
+    return then
+
+
+def after(first, *others):
+    def then(reply):
+        return first(reply) and all(other(reply) for other in others)
+    return then
+
+
+def capped(reply, *_):
+    """Lowers all TTLs to 30."""
+    sets = [one for section in reply.sections[1:] for one in section]
+    for one in sets:
+        one.ttl = 30
+    return bool(sets)
+
+
+def capitals(reply, *_):
+    """Writes the names of all records in capitals, each record as its own set, in the other order."""
+    for section in reply.sections[1:]:
+        section[:] = [rrset(line.replace("example.", "EXAMPLE.").replace(" IN ", " ")) for one in section[::-1]
+                      for line in one.to_text().split("\n")[::-1]]
+    return bool(reply.answer)
+
+
+def truncated(reply, name, rtype, tcp):
+    """Sets TC over UDP, without records."""
+    if not tcp:
+        code("NOERROR")(reply)
+        reply.flags |= TC
+    return not tcp
+
+
+def is_negative(reply, *_):
+    return any(one.rdtype == dns.rdatatype.SOA for one in reply.authority)
+
+
+def is_referral(reply, *_):
+    return not reply.flags & AA and reply.rcode() == 0
+
+
+def to_www(then):
+    """A change of the reply to www.example. A over UDP."""
+    return lambda reply, name, rtype, tcp: then(reply) if (name, rtype, tcp) == ("www.example.", "A", False) else None
+
+
+def over_tcp(out):
+    """Truncates the reply to www.example. A over UDP, and sends `out` over TCP."""
+    def wrong(reply, name, rtype, tcp):
+        return (out if tcp else truncated(reply, name, rtype, tcp)) if (name, rtype) == ("www.example.", "A") else None
+    return wrong
+
+
+def other_id(reply):
+    reply.id ^= 1
+    return reply.to_wire()
+
+
+def other_question(reply):
+    return dns.message.make_response(dns.message.make_query("other.example.", "A", id=reply.id)).to_wire()
+
+
+def odd_first(reply, *_):
+    """First garbage, a reply with another ID, one to another question, and one from another port; then the right
+    reply."""
+    right = reply.to_wire()
+    return [b"garbage", bytes([right[0] ^ 1]) + right[1:], other_question(reply), Elsewhere(right), right]
+
+
+def other_soa(reply, *_):
+    """Gives each SOA record another serial and TTL."""
+    for section in (reply.answer, reply.authority):
+        section[:] = [rrset(SOA.format(9).replace(" 5 ", " 7 ")) if one.rdtype == 6 else one for one in section]
+    return True
+
+
+def own_servers(reply, *_):
+    """Adds the servers of the zone, and their address, to an answer."""
+    if reply.answer and not reply.authority:
+        put("authority", "example. 300 NS ns.example.")(reply)
+        put("additional", "ns.example. 300 A 192.0.2.1", keep=True)(reply)
+    return True
+
+
+def unasked(reply):
+    """The reply without its question."""
+    reply.question = []
+    return True
+
+
+def once():
+    """Leaves the first try of each question without a reply."""
+    seen = set()
+
+    def wrong(reply, name, rtype, tcp):
+        again = (name, rtype) in seen
+        seen.add((name, rtype))
+        return None if again else b""
+    return wrong
+
+
+ANSWER, AUTHORITY, ADDITIONAL = (f"the {name} section {{}} records" for name in ("answer", "authority", "additional"))
+SETS, GLUE, NEGATIVE, TTLS, HEADER = "RFC 1034 4.3.2", "RFC 9471 3.1", "RFC 2308 3", "RFC 1035 3.2.1", "RFC 1035 4.1.1"
+WWW = "www.example. 300 A 192.0.2.10", "www.example. 300 A 192.0.2.11"
+SUB = "sub.example. 300 NS ns.sub.example.", "sub.example. 300 NS ns.other."
+SOA = "example. {} SOA ns.example. host.example. 5 7200 900 1209600 60"
+NO_UDP, NO_TCP = "no reply over UDP: {}", "no reply over TCP: {}"
+SILENT = "RFC 8906 3.1"
+
+# For each row: what is wrong; the change; the kinds of difference, each with the section of the RFC that says so; and
+# options.
+WRONG = [
+    ("a record of a set is missing", at("www.example. A", then=put("answer", WWW[0])), {ANSWER.format("lacks"): SETS}),
+    ("a set is missing", at("www.example. A", then=put("answer")), {ANSWER.format("lacks"): SETS}),
+    ("a record too many", at("www.example. A", then=put("answer", "www.example. 300 A 192.0.2.12", keep=True)),
+     {ANSWER.format("has more"): SETS}),
+    ("other data", at("www.example. A", then=put("answer", WWW[0], "www.example. 300 A 192.0.2.12")),
+     {ANSWER.format("has other"): SETS}),
+    ("an alias is not followed", at("alias.example. A", then=put("answer", "alias.example. 300 CNAME www.example.")),
+     {ANSWER.format("lacks"): "RFC 1034 3.6.2"}),
+    ("an alias to a missing name is NOERROR", at("lost.example. A", then=lambda reply: reply.set_rcode(0) or True),
+     {"NOERROR and not NXDOMAIN": "RFC 1034 3.6.2"}),
+    ("an alias out of the zone is missing", at("away.example. A", then=put("answer")),
+     {ANSWER.format("lacks"): "RFC 1034 3.6.2"}),
+    ("an alias into the zone below is no referral", at("deep.example. A", then=put("authority")),
+     {AUTHORITY.format("lacks"): SETS}),
+    ("NXDOMAIN for a name with other types", at("www.example. AAAA", then=code("NXDOMAIN")),
+     {"NXDOMAIN and not NOERROR": "RFC 2308 2.2"}),
+    ("NXDOMAIN for an empty name", when(lambda _, name, rtype: name == "ent.example.", code("NXDOMAIN")),
+     {"NXDOMAIN and not NOERROR": "RFC 4592 2.2.2"}),
+    ("NOERROR for a missing name",
+     when(lambda reply, name, _: reply.rcode() == 3 and name != "lost.example.", code("NOERROR")),
+     {"NOERROR and not NXDOMAIN": "RFC 2308 2.1"}),
+    ("SERVFAIL", at("www.example. A", then=code("SERVFAIL")), {"SERVFAIL and not NOERROR": SETS}),
+    ("SERVFAIL for names that don't exist", when(lambda reply, *_: reply.rcode() == 3, code("SERVFAIL")),
+     {"SERVFAIL and not NXDOMAIN": None}),
+    ("a wildcard is not applied", under("w.example.", code("NXDOMAIN")), {"NXDOMAIN and not NOERROR": "RFC 4592 3.3"}),
+    ("a wildcard keeps its own name",
+     when(lambda reply, name, _: name.endswith("zz-none.w.example.") and reply.answer, put(
+        "answer", '*.w.example. 300 TXT "any"')), {ANSWER.format("has other"): "RFC 4592 3.3"}),
+    ("no SOA in a negative reply", when(is_negative, put("authority")), {AUTHORITY.format("lacks"): NEGATIVE}),
+    ("the SOA of a negative reply has its own TTL", when(is_negative, put("authority", SOA.format(300))),
+     {"higher TTLs": TTLS}),
+    ("no AA", at("www.example. A", then=flip(AA)), {"no AA": HEADER}),
+    ("AA in a referral", when(is_referral, flip(AA)), {"AA in a referral": HEADER}),
+    ("a server of a referral is missing", when(is_referral, put("authority", SUB[0])),
+     {AUTHORITY.format("lacks"): SETS}),
+    ("a server too many", when(is_referral, put("authority", "sub.example. 300 NS a.", keep=True)),
+     {AUTHORITY.format("has more"): SETS}),
+    ("the zone's own servers in a referral",
+     when(is_referral, put("authority", "example. 300 NS ns.example.", keep=True)),
+     {AUTHORITY.format("has more"): SETS}),
+    ("another server in an answer", at("www.example. A", then=put("authority", "example. 300 NS a.")),
+     {AUTHORITY.format("has more"): SETS}),
+    ("no glue", when(is_referral, put("additional")), {ADDITIONAL.format("lacks"): GLUE}),
+    ("half of the glue", when(is_referral, put("additional", "ns.sub.example. 300 A 192.0.2.53")),
+     {ADDITIONAL.format("lacks"): GLUE}),
+    ("other glue",
+     when(is_referral, put("additional", "ns.sub.example. 300 A 192.0.2.54", "ns.sub.example. 300 AAAA ::1")),
+     {ADDITIONAL.format("has other"): GLUE}),
+    ("another address of a mail host", at("mail.example. MX", then=put("additional", "ns.example. 300 A 192.0.2.2")),
+     {ADDITIONAL.format("has more"): "RFC 1034 4.3.2"}),
+    ("lower TTLs", capped, {"lower TTLs: the server caps them, or has a cache": TTLS}),
+    ("a higher TTL", at("www.example. A", then=put("answer", *(one.replace("300", "301") for one in WWW))),
+     {"higher TTLs": TTLS}),
+    ("two TTLs in a set", at("www.example. A", then=put("answer", WWW[0], WWW[1].replace("300", "200"))),
+     {"TTLs that differ in one set": "RFC 2181 5.2"}),
+    ("capitals are another name", when(lambda _, name, __: name == "EXAMPLE.", code("REFUSED")),
+     {"REFUSED and not NOERROR": "RFC 4343 3"}),
+    ("AA for a name outside", when(lambda reply, *_: reply.rcode() == 5, after(code("NXDOMAIN"), flip(AA))),
+     {"AA for a name outside the zone": HEADER}),
+    ("TC over TCP", lambda reply, name, rtype, tcp: flip(TC)(reply) if (name, rtype) == ("www.example.", "A")
+     else None,
+     {"TC over TCP": "RFC 2181 9"}),
+    ("RA is set, and --exact", at("www.example. A", then=flip(RA)), {"another header": SETS}, "--exact"),
+    ("another TTL, and --exact", at("mail.example. MX", then=put("additional", "ns.example. 5 A 192.0.2.1")),
+     {"lower TTLs: the server caps them, or has a cache": TTLS}, "--exact"),
+    ("garbage", to_www(lambda reply: reply.to_wire()[:-3]), {NO_UDP.format("a reply that can't be read"): SILENT}),
+    ("octets after the reply", to_www(lambda reply: reply.to_wire() + b"x"),
+     {NO_UDP.format("a reply that can't be read"): SILENT}),
+    ("five octets", to_www(lambda reply: reply.to_wire()[:5]), {NO_UDP.format("a reply that can't be read"): SILENT}),
+    ("another ID", to_www(other_id), {NO_UDP.format("a reply with another ID or question"): SILENT}),
+    ("another question", to_www(other_question),
+     {NO_UDP.format("a reply with another ID or question"): SILENT}),
+    ("no question", to_www(unasked), {NO_UDP.format("a reply with another ID or question"): SILENT}),
+    ("the query itself", to_www(flip(dns.flags.QR)), {NO_UDP.format("a reply with another ID or question"): SILENT}),
+    ("from another port", to_www(lambda reply: Elsewhere(reply.to_wire())),
+     {NO_UDP.format("a reply from another address or port"): SILENT}),
+    ("silence for one question", to_www(lambda reply: b""), {NO_UDP.format("silence"): SILENT}),
+    ("half a reply over TCP", over_tcp(Raw(b"\0\100abc")), {NO_TCP.format("the connection ended"): SILENT}),
+    ("no reply over TCP", over_tcp(Raw(b"\0")), {NO_TCP.format("the connection ended"): SILENT}),
+    ("garbage over TCP", over_tcp(b"garbage"), {NO_TCP.format("a reply that can't be read"): SILENT}),
+    ("silence over TCP", over_tcp(b""), {NO_TCP.format("silence"): SILENT}),
+]
+
+# Changes that the RFCs allow, and options: nothing may be reported.
+ALLOWED = [
+    ("nothing changed", None),
+    ("nothing changed, over TCP", None, "--tcp"),
+    ("nothing changed, without EDNS", None, "--no-edns"),
+    ("all types", None, "--all-types"),
+    ("the zone's servers and their addresses in answers", own_servers),
+    ("no address of a mail host", at("mail.example. MX", then=put("additional"))),
+    ("an address by a wildcard", at("mail.example. MX", then=put("additional", "m.v.example. 300 A 192.0.2.7"))),
+    ("an address outside the zone",
+     at("sub.example. NS", then=put("additional", "ns.other. 5 A 192.0.2.9", keep=True))),
+    ("names in capitals, in another order", capitals),
+    ("a signature", at("www.example. A", then=put(
+        "answer", "www.example. 300 RRSIG A 8 2 300 20300101000000 20200101000000 1 example. AAAA", keep=True))),
+    ("RA", when(lambda *_: True, flip(RA))),
+    ("SERVFAIL for a loop",
+     when(lambda _, name, rtype: name == "loop.example." and rtype != "CNAME", code("SERVFAIL"))),
+    ("records of the other zone",
+     at("away.example. A", then=put("answer", "www.example.net. 9 A 192.0.2.8", keep=True))),
+    ("NXDOMAIN of the other zone", at("away.example. A", then=after(
+        lambda reply: reply.set_rcode(3) or True, put("authority", "example.net. 9 SOA a. b. 1 1 1 1 1")))),
+    ("HINFO for ANY", when(lambda _, name, rtype: rtype == "ANY" and name == "ns.example.",
+                           put("answer", 'ns.example. 300 HINFO "RFC8482" ""')), "--all-types"),
+    ("a part for ANY", at("mail.example. ANY", then=put("answer", "mail.example. 300 MX 10 ns.example.")),
+     "--all-types"),
+    ("NOTIMP for ANY", when(lambda _, name, rtype: (name, rtype) == ("www.example.", "ANY"), code("NOTIMP")),
+     "--all-types"),
+    ("SERVFAIL for a name outside", when(lambda reply, *_: reply.rcode() == 5, code("SERVFAIL"))),
+    ("TC over UDP", truncated),
+    ("odd replies before the right one", odd_first),
+    ("no reply at the first try", once(), "--questions", "12"),
+    ("another SOA and --any-soa", other_soa, "--any-soa"),
+]
+
+
+def compare(server, *words, text=ZONE, rate="0"):
+    """Runs zonecompare for a zone in standard input."""
+    words = [COMPARE, "--rate", rate, *words, "example", "-", server.address]
+    return subprocess.run(words, input=text, capture_output=True, text=True, timeout=120)
+
+
+def found_by(done):
+    return {one["kind"]: one for one in json.loads(done.stdout or "{}").get("differences", ())}
+
+
+@pytest.fixture(scope="module")
+def ran(programs):
+    """For each row, its server and the run of zonecompare. Three rows are run at once."""
+    def begin(title, wrong, *more):
+        server = Small(ZONE, wrong)
+        options = [option for option in more if isinstance(option, str)]
+        return server, compare(server, "--format", "json", *options)
+    with concurrent.futures.ThreadPoolExecutor(3) as pool:
+        yield {row[0]: pool.submit(begin, *row) for row in [*WRONG, *ALLOWED]}
+        pool.shutdown(cancel_futures=True)
+
+
+@pytest.mark.parametrize("title, wanted", [(row[0], row[2]) for row in WRONG])
+def test_a_wrong_reply(ran, title, wanted):
+    """The named kinds of difference are reported, for as many replies as were changed."""
+    server, done = ran[title].result()
+    found = found_by(done)
+    assert server.changed and (done.returncode, done.stderr, set(found)) == (1, "", set(wanted))
+    for kind, one in found.items():
+        assert one["replies"] == len(server.changed) and wanted[kind] in (None, one["rfc"]), (one, server.changed)
+
+
+@pytest.mark.parametrize("title", [row[0] for row in ALLOWED])
+def test_a_reply_that_the_rfcs_allow(ran, title):
+    done = ran[title].result()[1]
+    assert (done.returncode, done.stderr, found_by(done)) == (0, "", {})
+
+
+@pytest.mark.parametrize("words, wanted", [
+    ("example nowhere SERVER", "No such file"), ("example . SERVER", "Is a directory"),
+    ("a..b good SERVER", "bad origin"),
+    ("example good", "give a SERVER"), ("example good 127.0.0.1:0", "127.0.0.1:0: "),
+    ("example good 127.0.0.1:65536", "127.0.0.1:65536: "), ("example good [::1]:x", "[::1]:x: "),
+    ("example good \033[2J:x", "\\027[2J:x: "), ("example good EMPTY", ": "),
+    ("--questions 0 example good SERVER", "at least 1"),
+    ("--rate -1 example good SERVER", "at least 0"), ("--rate nan example good SERVER", "at least 0"),
+    ("--format xml example good SERVER", "xml"), ("example good SERVER --time", "--time"),
+    ("example faulty SERVER", ": R13: ")])
+def test_bad_calls_and_files(programs, tmp_path, monkeypatch, words, wanted):
+    """Status 2, a message, no traceback, and no question. The faults of a file are those that zonelint prints."""
+    monkeypatch.chdir(tmp_path)
+    server = Small(ZONE)
+    (tmp_path / "good").write_text(ZONE)
+    (tmp_path / "faulty").write_text(ZONE + "x A 192.0.2.256\n@ MX 10 nothere\nalias A 192.0.2.1\n")
+    words = [word.replace("SERVER", server.address).replace("EMPTY", "") for word in words.split(" ")]
+    done = servers.run(COMPARE, *words)
+    assert (done.returncode, done.stdout) == (2, "") and wanted in done.stderr
+    assert "Traceback" not in done.stderr and not server.asked
+    if "faulty" in words:
+        assert re.split(r"faulty:\d+: W", servers.run("zonelint", "example", "faulty").stdout)[0] in done.stderr
+
+
+ABOVE = "$TTL 9\n@ SOA ns h 5 1 1 1 1\n@ NS ns\nns A 192.0.2.1\nexample NS ns.example\nns.example A 192.0.2.1\n"
+LAME = ": lame: it does not serve the zone: 1 reply "
+
+
+@pytest.mark.parametrize("server, status, wanted, questions", [
+    (lambda: Small(ZONE, lambda *_: b""), 2, ": no reply over UDP: silence\n", 2),
+    (lambda: Small(ZONE, lambda *_: b"garbage"), 2, ": no reply over UDP: a reply that can't be read\n", 2),
+    (lambda: Small(ZONE, lambda reply, *_: Elsewhere(reply.to_wire())), 2, "from another address or port\n", 2),
+    (lambda: Small(ZONE, when(lambda *_: True, code("REFUSED"))), 1, LAME, 1),
+    (lambda: Small(ZONE, origin="example.net."), 1, LAME, 1),
+    (lambda: Small(ABOVE, origin="."), 1, LAME, 1),
+    (lambda: Small(ZONE.replace(" 5 ", " 4 ").replace("A 192", "A 198")), 1, ": an older zone: 1 reply ", 1),
+    (lambda: Small(ZONE.replace(" 5 ", " 6 ")), 1, ": a newer zone: 1 reply ", 1),
+    (lambda: Small(ZONE.replace(" 5 ", " 4294967295 ")), 1, ": an older zone: 1 reply ", 1)],
+    ids=["silent", "garbage", "another port", "refuses", "another zone", "the zone above", "older", "newer",
+         "older, around 0"])
+def test_servers_without_the_zone(programs, server, status, wanted, questions):
+    server = server()
+    done = compare(server)
+    assert (done.returncode, done.stderr, len(server.asked)) == (status, "", questions) and wanted in done.stdout
+
+
+def test_servers_that_do_not_reply(programs):
+    """If the server ends after its first reply, it is asked until 20 questions in a row have no reply."""
+    with socket.socket() as closed:
+        closed.bind(("127.0.0.1", 0))
+        done = compare(types.SimpleNamespace(address=f"127.0.0.1:{closed.getsockname()[1]}"), "--tcp")
+    assert (done.returncode, done.stderr) == (2, "") and ": no reply over TCP: no connection\n" in done.stdout
+    server = Small(ZONE, lambda reply, name, rtype, tcp: None if (name, rtype) == ("example.", "SOA") else b"")
+    done = compare(server)
+    assert done.returncode == 1 and " not asked\n" in done.stdout and len(set(server.asked)) <= 54
+
+
+def test_what_is_printed(programs):
+    """Each server, a block for each kind of difference with a dig command, and the last line."""
+    bad, good = Small(ZONE, at("www.example. A", then=put("answer", WWW[0]))), Small(ZONE)
+    old = Small(ZONE.replace(" 5 ", " 4 "))
+    done = compare(good, "--server", bad.address, "--server", old.address, "--server", good.address)
+    lines, asked = done.stdout.split("\n"), len(good.asked) - 1
+    assert (done.returncode, done.stderr) == (1, "")
+    assert sorted(lines[:3]) == sorted([f"{good.address}: serial 5", f"{bad.address}: serial 5",
+                                        f"{old.address}: serial 4"])
+    assert sorted(lines[3:11]) == sorted([
+        f"{bad.address}: {ANSWER.format('lacks')}: 1 reply ({SETS})",
+        f"    dig @127.0.0.1 -p {bad.port} +norec -q www.example. -t A",
+        "    expected: www.example. 300 IN A 192.0.2.11", "    got: nothing",
+        f"{old.address}: an older zone: 1 reply (RFC 1034 4.3.5)",
+        f"    dig @127.0.0.1 -p {old.port} +norec -q example. -t SOA",
+        "    expected: serial 5", "    got: serial 4"])
+    assert lines[11:] == [f"{asked} questions to 3 servers: 2 differ, {asked - 1} not asked", ""]
+
+
+def test_names_and_data_that_are_not_printable_are_escaped(programs):
+    said = compare(Small(ZONE, when(lambda _, name, rtype: "odd" in name and rtype == "TXT" and "zz" not in name,
+                                    put("answer")))).stdout
+    assert said.replace("\n", "").isprintable()
+    assert r'    expected: odd\007\032name.example. 300 IN TXT "\027[2J"' + "\n" in said
+
+
+@pytest.mark.parametrize("is_closed", [False, True])
+def test_an_output_that_is_full_or_closed(programs, is_closed):
+    reader, writer = os.pipe()
+    os.close(reader)
+    with os.fdopen(writer) if is_closed else open("/dev/full", "w") as output:
+        done = subprocess.run([COMPARE, "--rate", "0", "example", "-", Small(ZONE).address], input=ZONE, text=True,
+                              stdout=output, stderr=subprocess.PIPE)
+    assert done.returncode == 2 and "Traceback" not in done.stderr and not (is_closed and done.stderr)
+
+
+def test_addresses_and_names_of_servers(programs):
+    for host in ("::1", "127.0.0.1"):
+        server = Small(ZONE, host=host)
+        done = compare(server)
+        assert done.returncode == 0 and f"{server.address}: serial 5" in done.stdout
+    server.address = f"localhost:{server.port}"
+    assert f"localhost:{server.port} (127.0.0.1): serial 5" in compare(server).stdout
+
+
+def test_forms_of_zones(programs):
+    """A server without EDNS, a long chain of aliases and a long name, and a zone in BIND's form. dnspython does not
+    read a TTL after the class."""
+    done = compare(Small(ZONE, edns=False))
+    assert done.returncode == 0 and ": serial 5, without EDNS" in done.stdout
+    server = Small(LONG)
+    done = compare(server, text=LONG)
+    assert done.returncode == 0 and f"\n{len(server.asked) - 1} questions to 1 server: 0 differ\n" in done.stdout
+    bind = TOP / "examples" / "bind.zone"
+    server = Small(bind.read_text().replace("IN 5m", "5m IN"), origin="example.com.")
+    done = servers.run(COMPARE, "--rate", "0", "--bind", "example.com", bind, server.address)
+    assert (done.returncode, done.stderr) == (0, "")
+
+
+def test_samples(programs):
+    samples = []
+    for seed in ("1", "1", "2"):
+        server = Small(ZONE)
+        said = compare(server, "--questions", "18", "--seed", seed).stdout
+        samples.append(sorted(server.asked[1:]))
+        assert len(set(samples[-1])) == 18 and "18 questions of " in said and f"--seed {seed}," in said
+    assert samples[0] == samples[1] != samples[2] and ("EXAMPLE.", "SOA") in samples[0]
+
+
+def test_how_fast_and_how_many_at_once(programs):
+    server, begun = Small(ZONE), time.monotonic()
+    compare(server, "--questions", "41", rate="20")
+    assert time.monotonic() - begun >= 2 and len(server.asked) == 42
+    server = Small(ZONE, pause=0.3)
+    compare(server)
+    assert 16 <= server.most <= 32
+
+
+def test_an_interrupt(programs):
+    """What was found so far is printed."""
+    server = Small(ZONE, capped)
+    words = [COMPARE, "--rate", "20", "example", "-", server.address]
+    with subprocess.Popen(words, stdin=subprocess.PIPE, stdout=subprocess.PIPE, stderr=subprocess.PIPE) as run:
+        run.stdin.write(ZONE.encode())
+        run.stdin.close()
+        assert until(lambda: len(server.asked) >= 12, 30)
+        run.send_signal(signal.SIGINT)
+        said, bad = run.stdout.read(), run.stderr.read()
+    assert (run.returncode, bad) == (130, b"") and b"lower TTLs" in said and b" not asked\n" in said
+
+
+def test_progress_is_printed_on_a_terminal(programs):
+    ours, theirs = pty.openpty()
+    with subprocess.Popen([COMPARE, "--rate", "0", "example", "-", Small(ZONE).address], stdin=subprocess.PIPE,
+                          stdout=theirs,
+                          stderr=theirs) as run:
+        run.communicate(ZONE.encode())
+    os.close(theirs)
+    said = os.read(ours, 65536).decode()
+    assert "50 replies\r" in said and " questions to 1 server: 0 differ" in said
+
+
+def test_zoneserve(programs, tmp_path):
+    """--exact can't tell zoneserve from the proved reply; and 2,000 questions take at most 10 seconds of the
+    processor."""
+    zone, (host, port) = tmp_path / "zone", ("127.0.0.2", Small(ZONE).port)
+    zone.write_text(ZONE + "".join(f"h{at} A 192.0.2.{at}\nh{at} MX 5 h{at}\n*.d{at} TXT a\ne.f{at} CNAME h{at}\n"
+                                   for at in range(200)))
+    how = programs / "zoneserve", zone, "example", (host, int(port))
+    with Serving(how[0], "udp", *how[1:]), Serving(how[0], "tcp", *how[1:]):
+        for options, least in (((), 2000), (("--tcp",), 200), (("--exact",), 200)):
+            before = resource.getrusage(resource.RUSAGE_CHILDREN)
+            done = servers.run(COMPARE, "--rate", "0", "--questions", str(least), *options, "example", zone,
+                               f"{host}:{port}")
+            after = resource.getrusage(resource.RUSAGE_CHILDREN)
+            assert (done.returncode, done.stderr) == (0, "") and f"{least} questions of " in done.stdout
+            assert after.ru_utime + after.ru_stime - before.ru_utime - before.ru_stime < 10
+
+
+# ---- other servers
+
+OTHER = ("127.0.0.1", 5389)
+ROWS = [pytest.param(row, id=row[0], marks=[pytest.mark.slow, pytest.mark.peers(row[1])])
+        for row in [*rivals.SERVERS, rivals.POWERDNS_SERVER]]
+
+
+@contextlib.contextmanager
+def running(row, folder, file, origin="example"):
+    """Runs another server until the end of the body, which begins when it answers for the zone."""
+    def has_soa():
+        with contextlib.suppress(dns.exception.Timeout, OSError):
+            query = dns.message.make_query(origin, "SOA", flags=0)
+            return dns.query.udp(query, OTHER[0], 1, OTHER[1]).answer
+
+    with rivals.serving(row, OTHER, folder, file, 1, origin):
+        until(has_soa, 20)
+        yield
+
+
+def canonical(folder, origin, file):
+    text = subprocess.run([TOP / "bin" / "zoneimport", origin, file], capture_output=True, check=True).stdout
+    text = subprocess.run(["zonecheck", "--print", origin, "/dev/stdin"], input=text, capture_output=True,
+                          check=True).stdout
+    (folder / "served").write_bytes(text)
+    return folder / "served"
+
+
+# `zones`: the sample zones, each with its origin, its file, and whether it is in BIND's form; BIND loads such a file
+# itself. `listed`: the differences that may be found: the server, the file, the kind, in how many replies at most, and
+# why. Of the 19 aliases in a row of hard.zone, those from c4 on lead to the address by 16 aliases or fewer, which
+# zoneserve follows. Each is asked for 9 types at most.
+PEERS = json.loads((DATA / "peers.json").read_text())
+LISTED = {tuple(row[:3]): row[3] for row in PEERS["listed"]}
+
+
+@pytest.mark.parametrize("options", ["--all-types", "--no-edns"])
+@pytest.mark.parametrize("origin, name, bind", PEERS["zones"], ids=[name for _, name, _ in PEERS["zones"]])
+@pytest.mark.parametrize("row", ROWS)
+def test_others_differ_only_as_listed(programs, tmp_path, row, origin, name, bind, options):
+    file = TOP / name
+    served = file if bind and row[0] == "named" else canonical(tmp_path, origin, file)
+    words = [options, *["--bind"] * bind, origin, file, f"{OTHER[0]}:{OTHER[1]}"]
+    with running(row, tmp_path, served, origin):
+        done = servers.run(COMPARE, "--rate", "0", "--format", "json", *words)
+    assert done.returncode in (0, 1), done.stderr
+    for kind, one in found_by(done).items():
+        assert one["replies"] <= LISTED.get((row[0], file.name, kind), 0), kind

@@ -1,0 +1,404 @@
+"""Faults at run time: allocations and system calls that fail, little memory, a small stack, bad standard streams,
+signals. Each run must either be normal, where the fault allows that, or end with the message and the status of
+docs/CODES.md, after writing at most a prefix of its normal output."""
+import contextlib
+import fcntl
+import os
+import re
+import resource
+import signal
+import socket
+import subprocess
+import threading
+import time
+
+import dns.message
+import pytest
+from servers import TOP, Serving, asking, bound, connected, framed, query, until
+
+ADDRESS = ("127.0.0.1", 5396)
+QUERY = query("www.example")
+EXAMPLE = TOP / "examples" / "example.zone"
+pytestmark = pytest.mark.slow
+compiled, traced = pytest.mark.peers("cc"), pytest.mark.peers("strace")
+
+
+class Case:
+    """A program with its arguments and its input, and its normal status and output, for which it is run once."""
+
+    def __init__(self, words, given=b""):
+        self.words, self.given = [str(word) for word in words], given
+        self.status, self.output, self.errors = self.well = self.run()
+
+    def run(self, before=(), **how):
+        ran = subprocess.run([*before, *self.words], input=self.given, timeout=60, **{"capture_output": True, **how})
+        return ran.returncode, ran.stdout, ran.stderr
+
+    def stopped(self, result, message, nothing=True):
+        """Whether a run ended with status 2 and this message, and wrote no output, or, if `nothing` is false, a prefix
+        of the normal output."""
+        status, output, errors = result
+        begins = not output if nothing else self.output.startswith(output)
+        return status == 2 and begins and errors == message + b"\n"
+
+
+# The words of each case, and the file that is its input.
+CASES = {
+    "check --print": ("zonecheck --print example EXAMPLES/example.zone", None),
+    "check --print forms": ("zonecheck --print example DATA/forms.zone", None),
+    "check --print mixed": ("zonecheck --print example FOLDER/some.zone", None),
+    "check faulty": ("zonecheck example EXAMPLES/faulty.zone", None),
+    "serve once": ("zoneserve once example EXAMPLES/example.zone", "crates/zoneserve/stdin"),
+    "serve once --tcp": ("zoneserve once --tcp example FOLDER/some.zone", "crates/zoneserve/stdin"),
+    "message": ("dnsmsg", "crates/dnsmsg/stdin"),
+    # The owner of its SOA record is a pointer, and the two names in the record's data end in pointers.
+    "message of a name error": ("dnsmsg", "tests/data/name-error"),
+}
+
+
+@pytest.fixture(scope="module")
+def folder(tmp_path_factory):
+    folder = tmp_path_factory.mktemp("faults")
+    mixed = subprocess.run([TOP / "bench" / "mixed-zone"], capture_output=True, check=True).stdout
+    (folder / "some.zone").write_bytes(b"\n".join([*mixed.split(b"\n")[:2000], b""]))
+    return folder
+
+
+@pytest.fixture(params=CASES)
+def case(request, programs, folder):
+    words, given = CASES[request.param]
+    places = {"EXAMPLES": TOP / "examples", "DATA": TOP / "tests" / "data", "FOLDER": folder}
+    name, *words = re.sub("EXAMPLES|DATA|FOLDER", lambda place: str(places[place[0]]), words).split()
+    given = (TOP / given).read_bytes() if given else b""
+    return Case([programs / name, *words], given)
+
+
+@pytest.fixture(scope="module")
+def refusing(folder):
+    """Gives the environment that makes an allocation fail, and a file that is created when that happens
+    (tests/data/refuse.c)."""
+    device, mark = folder / "refuse.so", folder / "refused"
+    subprocess.run(["cc", "-shared", "-fPIC", "-O1", "-o", device, TOP / "tests" / "data" / "refuse.c"], check=True)
+
+    def refusing(number):
+        mark.unlink(missing_ok=True)
+        return {**os.environ, "LD_PRELOAD": str(device), "REFUSE": str(number), "REFUSED": str(mark)}, mark
+    return refusing
+
+
+def limit_of(kind, octets):
+    return lambda: resource.setrlimit(kind, (octets, octets))
+
+
+# ---- memory
+
+@compiled
+def test_each_allocation_fails(case, refusing):
+    """Alone: the program must report `no memory` and write no output, but for at most one, which only makes room ahead
+    and is asked for again."""
+    wells = number = 0
+    while True:
+        number += 1
+        how, mark = refusing(number)
+        result = case.run(env=how)
+        if not mark.exists():
+            break
+        wells += result == case.well
+        assert case.stopped(result, b"no memory") or wells == 1 and result == case.well, number
+    assert result == case.well and number > 1
+
+
+def calls_refused(well):
+    """For each call that may get no memory, the output that `refused` must have if it gets none. `well` is its normal
+    output."""
+    def changed(begin, end, line):
+        return b"".join([well[: well.index(begin)], line, b"\n", well[well.index(end):] if end else b""])
+
+    return {
+        "check_zone": changed(b"check_zone: ", b"read_zone: ", b"check_zone: Err(Memory)"),
+        "read_zone": changed(b"read_zone: ", b"read_message: ", b"read_zone: NoMemory"),
+        "build": changed(b"build: ", b"read_message: ", b"build: no memory"),
+        "read_message": changed(b"read_message: ", b"load_zone: ", b"read_message: Err(NoMemory)"),
+        "load_zone": changed(b"load_zone: ", b"", b"load_zone: Memory"),
+    }
+
+
+@pytest.fixture
+def refused(programs):
+    """The program of crates/refused, which calls functions of the libraries one after another."""
+    if not (programs / "refused").exists():
+        pytest.skip("crates/refused is not built: rt run there builds it")
+    return Case([programs / "refused", TOP / "crates" / "refused" / "data" / "large.zone"])
+
+
+@compiled
+def test_each_allocation_of_a_call_fails(refused, refusing):
+    """Alone: one call must report it, or else the program itself, but for at most one in each of three calls, which
+    only makes room ahead. The last allocation must be one of load_zone: the replies and sessions that follow it
+    allocate nothing."""
+    assert refused.well == (0, (TOP / "crates" / "refused" / "stdout").read_bytes(), b"")
+    wanted = calls_refused(refused.output)
+    counts, number, last, wells = dict.fromkeys([*wanted, "the program"], 0), 0, "", 0
+    while True:
+        number += 1
+        how, mark = refusing(number)
+        result = refused.run(env=how)
+        if not mark.exists():
+            break
+        names = [name for name, output in wanted.items() if result == (0, output, b"")]
+        if not names and result == refused.well:
+            wells += 1
+            continue
+        last = names[0] if names else "the program"
+        assert names or refused.stopped(result, b"no memory"), number
+        counts[last] += 1
+    assert result == refused.well and min(counts.values()) > 0 and last == "load_zone" and wells <= 3, counts
+
+
+def test_little_memory(case):
+    """The limit is raised in steps of 64 KB, from the least with which the program starts, until three runs in a row
+    are normal. Each other run must report `no memory`."""
+    def run(program, kb):
+        return program.run(preexec_fn=limit_of(resource.RLIMIT_AS, kb * 1024))
+    usage, wells = Case([case.words[0], "--no-such-word"]), 0
+    limit = next(kb for kb in range(1000, 100_000, 64) if run(usage, kb)[0] == 2)
+    while wells < 3:
+        result = run(case, limit)
+        wells = wells + 1 if result == case.well else 0
+        assert wells or case.stopped(result, b"no memory"), limit
+        limit += 64
+
+
+def test_a_small_stack(case):
+    assert case.run(preexec_fn=limit_of(resource.RLIMIT_STACK, 128 * 1024)) == case.well
+
+
+def test_a_small_stack_for_all_calls(refused):
+    assert refused.run(preexec_fn=limit_of(resource.RLIMIT_STACK, 1024 * 1024)) == refused.well
+
+
+# ---- system calls, and standard streams
+
+ERRORS = {"mmap": "ENOMEM", "mremap": "ENOMEM", "openat": "EACCES", "read": "EIO", "write": "ENOSPC", "close": "EIO"}
+
+
+def calls_of(case, folder):
+    """For each name of a system call in a run: the number of its calls by the loader, and by the loader and the
+    program together. The call that sets the action of SIGPIPE is the last one that is counted as the loader's."""
+    case.run(["strace", "-qq", "-o", str(folder / "trace")])
+    calls = re.findall(r"^(\w+)\((.*)", (folder / "trace").read_text(errors="replace"), re.M)
+    names, begun = [name for name, _ in calls], next(at for at, call in enumerate(calls) if "SIGPIPE" in call[1]) + 1
+    return {name: (names[:begun].count(name), names.count(name)) for name in ERRORS}
+
+
+@traced
+@pytest.mark.parametrize("name", ERRORS)
+def test_each_system_call_fails(case, folder, name):
+    """The program must print the message for what failed. If a call for memory or `close` fails, the run may also be
+    normal."""
+    loader, last = calls_of(case, folder)[name]
+    message = {"openat": b"R16", "read": b"R16", "write": b"P1"}.get(name, b"no memory")
+    for number in range(loader + 1, last + 1):
+        result = case.run(["strace", "-qq", "-o", "/dev/null", "-e",
+                           f"inject={name}:error={ERRORS[name]}:when={number}"])
+        is_well = result == case.well and name not in ("openat", "read", "write")
+        assert is_well or case.stopped(result, message, nothing=name not in ("read", "write")), number
+
+
+def test_bad_streams(case, folder):
+    """Standard output is full, closed, a pipe without a reader, or a file of limited size with SIGXFSZ ignored. Then
+    standard error is closed."""
+    def limited():
+        signal.signal(signal.SIGXFSZ, signal.SIG_IGN)
+        resource.setrlimit(resource.RLIMIT_FSIZE, (512, 512))
+    wanted = (2, None, b"P1\n") if case.output else (case.status, None, case.errors)
+    reader, writer = os.pipe()
+    os.close(reader)
+    how = {"capture_output": False, "stderr": subprocess.PIPE}
+    with open("/dev/full", "wb") as full, os.fdopen(writer, "wb") as pipe, open(folder / "limited", "wb") as file:
+        assert case.run(stdout=full, **how) == wanted
+        assert case.run(preexec_fn=lambda: os.close(1), **how) == wanted
+        assert case.run(stdout=pipe, **how) == wanted
+        assert len(case.output) <= 512 or case.run(stdout=file, preexec_fn=limited, **how) == wanted
+    how = {"capture_output": False, "stdout": subprocess.PIPE}
+    assert case.run(preexec_fn=lambda: os.close(2), **how) == (case.status, case.output, None)
+
+
+def test_streams_that_do_not_block(case):
+    """Standard input and output are pipes in non-blocking mode, and the peer is slow to write and to read: the run is
+    normal."""
+    reader, given = os.pipe()
+    output, writer = os.pipe()
+    fcntl.fcntl(writer, fcntl.F_SETPIPE_SZ, 4_096)
+    for end in (reader, writer):
+        os.set_blocking(end, False)
+    run = subprocess.Popen(case.words, stdin=reader, stdout=writer, stderr=subprocess.PIPE)
+    os.close(reader)
+    os.close(writer)
+
+    def give():
+        half = len(case.given) // 2
+        with os.fdopen(given, "wb", 0) as to, contextlib.suppress(OSError):
+            for piece in (case.given[:half], case.given[half:]):
+                time.sleep(0.1)
+                to.write(piece)
+
+    giver = threading.Thread(target=give)
+    giver.start()
+    time.sleep(0.3)
+    with os.fdopen(output, "rb", 0) as got:
+        written = got.readall()
+    giver.join()
+    errors = run.communicate(timeout=60)[1]
+    assert (run.returncode, written, errors) == case.well
+
+
+# ---- servers
+
+TURNS = 3
+# For each transport, the system calls on a socket, each with the error and the server's message if it fails.
+NETWORK = {
+    "udp": {"socket": ("EMFILE", "bind"), "bind": ("EADDRINUSE", "bind"), "recvfrom": ("ENOMEM", "U1"),
+            "sendto": ("ENOBUFS", "U2")},
+    "tcp": {"socket": ("EMFILE", "bind"), "bind": ("EADDRINUSE", "bind"), "listen": ("EADDRINUSE", "bind"),
+            "accept4": ("EMFILE", "accept"), "recvfrom": ("ENOMEM", "S1"), "sendto": ("ENOBUFS", "S2")}}
+# The system calls with which a server examines a socket that it is given.
+GIVEN = {"fcntl": ("EMFILE", "bind"), "getsockname": ("ENOBUFS", "bind")}
+
+
+def injecting(name, error, number):
+    return ["strace", "-qq", "-o", "/dev/null", "-e", f"inject={name}:error={error}:when={number}"]
+
+
+def ended(server):
+    """The status and the words on standard error of a server that ends by itself in five seconds, and is killed
+    otherwise."""
+    with contextlib.suppress(subprocess.TimeoutExpired):
+        server.run.wait(5)
+    return server.end(0)
+
+
+def ask(server, times):
+    """Sends a query so many times, each over a new socket, and returns the number of replies."""
+    answered = 0
+    for _ in range(times if server.serves else 0):
+        with contextlib.suppress(OSError), asking(ADDRESS, 1) if server.transport == "udp" else connected(ADDRESS,
+                                                                                                          1) as client:
+            client.send(QUERY if server.transport == "udp" else framed(QUERY))
+            answered += len(client.recv(512)) > 12
+    return answered
+
+
+server_and_transport = pytest.mark.parametrize("name, transport", [
+    (name, transport) for name in ("zoneserve", "zonesocket") for transport in NETWORK])
+
+
+@traced
+@server_and_transport
+def test_each_call_on_a_socket_fails(programs, name, transport):
+    """If the server can't begin to serve, it must end with `bind`. Otherwise it must report the call, count the turn,
+    and serve the other turns."""
+    for call, (error, message) in {**NETWORK[transport], **GIVEN}.items():
+        if message == "bind" and (name == "zonesocket") != (call in GIVEN):
+            continue
+        for number in [1] if message == "bind" else range(1, TURNS + 1):
+            how = {"turns": TURNS, "by": injecting(call, error, number)}
+            with Serving(programs / name, transport, EXAMPLE, "example", ADDRESS, **how) as server:
+                answered, said = ask(server, TURNS), ended(server)
+            status, most = (2, 0) if message == "bind" else (0, TURNS - 1)
+            # Over TCP the server also reads the end of each connection. If that read fails, no reply is missing.
+            least = most if call != "recvfrom" or transport == "udp" else TURNS - 2
+            assert said == (status, [message]) and least <= answered <= TURNS, (call, number, answered)
+
+
+@traced
+@server_and_transport
+@pytest.mark.parametrize("number", range(1, TURNS + 1))
+@pytest.mark.parametrize("call", ["recvfrom", "sendto"])
+def test_a_call_is_interrupted(programs, name, transport, call, number):
+    """The server repeats it, and reports nothing."""
+    how = {"turns": TURNS, "by": injecting(call, "EINTR", number)}
+    with Serving(programs / name, transport, EXAMPLE, "example", ADDRESS, **how) as server:
+        assert (ask(server, TURNS), ended(server)) == (TURNS, (0, []))
+
+
+@pytest.mark.parametrize("transport", NETWORK)
+def test_a_given_socket_that_does_not_block(programs, transport):
+    """The server waits for questions all the same, and leaves the socket non-blocking."""
+    with bound({"udp": socket.SOCK_DGRAM, "tcp": socket.SOCK_STREAM}[transport], ADDRESS) as given:
+        given.setblocking(False)
+        with Serving(programs / "zonesocket", transport, EXAMPLE, "example", ADDRESS, TURNS, given=given) as server:
+            time.sleep(0.1)
+            assert (ask(server, TURNS), ended(server), given.getblocking()) == (TURNS, (0, []), False)
+
+
+def recorded(transport):
+    """The replies of `refused` over a transport, the queries to which they are replies, and the octets of its
+    session."""
+    lines = (TOP / "crates" / "refused" / "stdout").read_text().split("\n")
+    first = lines.index("load_zone: a zone") + 1
+    replies = [bytes.fromhex(line) for line in lines[first:first + 16]][1 if transport == "tcp" else 0::2]
+    asked = [dns.message.from_wire(reply, question_only=True) for reply in replies]
+    queries = [dns.message.make_query(one.question[0].name, one.question[0].rdtype, flags=0, id=one.id).to_wire()
+               for one in asked]
+    return queries, replies, bytes.fromhex(lines[lines.index("serve_stream: Ok(3)") + 1])
+
+
+@contextlib.contextmanager
+def starved(programs, name, transport, turns, refusing):
+    """A server that gets no more memory after it has loaded its zone: with less it must end."""
+    for number in range(1, 1000):
+        how = {"turns": turns, "env": refusing(f"{number}+")[0]}
+        zone = TOP / "crates" / "refused" / "data" / "large.zone"
+        with Serving(programs / name, transport, zone, "example", ADDRESS, **how) as server:
+            if server.serves and not until(lambda: server.run.poll() is not None, 0.3):
+                yield server
+                return
+            assert ended(server) == (2, ["no", "memory"]), number
+
+
+@compiled
+@pytest.mark.parametrize("name", ["zoneserve", "zonesocket"])
+def test_a_starved_server_over_udp(programs, refusing, name):
+    """Its replies are as usual."""
+    queries, replies, _ = recorded("udp")
+    with starved(programs, name, "udp", len(queries), refusing) as server:
+        with asking(ADDRESS, 5) as client:
+            for asked, reply in zip(queries, replies):
+                client.send(asked)
+                assert client.recv(512) == reply
+        assert ended(server) == (0, [])
+
+
+@compiled
+@pytest.mark.parametrize("name", ["zoneserve", "zonesocket"])
+def test_a_starved_server_over_tcp(programs, refusing, name):
+    """A connection that there is no memory for is closed at once, with `accept`; one that is served gets its
+    replies."""
+    queries, replies, session = recorded("tcp")
+    stream = framed(QUERY) + framed(QUERY[:11]) + framed(QUERY)
+    with starved(programs, name, "tcp", 3, refusing) as server:
+        for sent, reply in [(b"".join(map(framed, queries)), b"".join(map(framed, replies))), (stream, session),
+                            (b"\0", b"")]:
+            with connected(ADDRESS) as client:
+                client.sendall(sent)
+                client.shutdown(socket.SHUT_WR)
+                got = b""
+                with contextlib.suppress(ConnectionResetError):
+                    got = b"".join(iter(lambda: client.recv(65_536), b""))
+                assert got in (reply, b"")
+        status, said = ended(server)
+        assert status == 0 and set(said) <= {"accept", "S3"}
+
+
+@pytest.mark.parametrize("transport", NETWORK)
+def test_signals(programs, transport):
+    """A server that was stopped and continued serves the next clients. SIGTERM ends a server by its default action."""
+    with Serving(programs / "zoneserve", transport, EXAMPLE, "example", ADDRESS) as server:
+        with connected(ADDRESS) if transport == "tcp" else contextlib.nullcontext():
+            for sent in [signal.SIGSTOP, signal.SIGCONT] * 2:
+                server.run.send_signal(sent)
+                time.sleep(0.1)
+        assert ask(server, 3) == 3
+        server.run.send_signal(signal.SIGTERM)
+        assert server.run.wait(timeout=5) == -signal.SIGTERM

@@ -1,0 +1,143 @@
+"""Wrong calls, files and outputs of the built programs; and what a caller of the libraries must not do, or no test
+would notice."""
+import json
+import os
+import re
+import shutil
+import subprocess
+
+import pytest
+from servers import TOP, run
+
+EXAMPLES, DATA = TOP / "examples", TOP / "tests" / "data"
+# For each program, its calls in examples/, in which FOLDER is a folder with faulty zones: the words, the status, and
+# what is written to each stream. zonesocket gets no socket.
+CALLS = json.loads((DATA / "calls.json").read_text())
+LOADED = "zone example/IN: loaded serial 1\nOK\n"
+
+
+@pytest.mark.parametrize("program, words, status, output, errors",
+                         [(name, *row) for name, rows in CALLS.items() for row in rows])
+def test_a_call(programs, tmp_path, program, words, status, output, errors):
+    (tmp_path / "mapped.zone").write_text("$TTL 5\n@ AAAA ::192.0.2.1\n")
+    (tmp_path / "open.zone").write_text('@ NS "')
+    words = words.replace("FOLDER", str(tmp_path)).split(" ") if words else []
+    done = run(programs / program, *words, cwd=EXAMPLES, stdin=subprocess.DEVNULL)
+    assert (done.returncode, done.stdout, done.stderr) == (status, output, errors)
+
+
+@pytest.mark.parametrize("program, words, output", [("zonecheck", [], LOADED), ("zoneserve", ["once"], "")])
+def test_the_name_of_a_program_need_not_be_utf_8(programs, tmp_path, program, words, output):
+    named = os.fsencode(tmp_path / program) + b"\xff"
+    shutil.copy(programs / program, named)
+    done = subprocess.run([named, *words, "example", EXAMPLES / "example.zone"], capture_output=True, input=b"")
+    assert (done.returncode, done.stdout, done.stderr) == (0, output.encode(), b"")
+
+
+@pytest.mark.parametrize("device", [">/dev/full", ">&-", "| head -c 100 >/dev/null; exit ${PIPESTATUS[0]}"])
+@pytest.mark.parametrize("option", ["", "--print"])
+def test_an_output_that_fails(programs, tmp_path, option, device):
+    zone = EXAMPLES / "example.zone"
+    if "|" in device:
+        option, zone = "--print", tmp_path / "mixed.zone"
+        zone.write_bytes(subprocess.run([TOP / "bench" / "mixed-zone"], capture_output=True, check=True).stdout)
+    done = run("bash", "-c", f"zonecheck {option} example {zone} {device}")
+    assert (done.returncode, done.stderr) == (2, "P1\n")
+
+
+@pytest.mark.peers("strace")
+@pytest.mark.parametrize("option", ["", "--print"])
+def test_a_device_is_not_used_again_after_it_has_failed(programs, tmp_path, option):
+    zone, calls = EXAMPLES / "example.zone", tmp_path / "calls"
+    done = run("bash", "-c",
+               f"strace -qq -e trace=write,writev -o {calls} zonecheck {option} example {zone} >/dev/full")
+    assert (done.returncode, done.stderr) == (2, "P1\n")
+    assert len(re.findall(r"^writev?\(1,", calls.read_text(), re.M)) == 1
+
+
+# ---- what the compiler must refuse
+
+# `caller`: the error, and no other, for a caller of a walk (`Steps` of dns_zone, which counts the nodes that it
+# reaches) that ends with an expression. A walk is not cloned or copied; neither a walk nor a node gives a zone, which
+# would allow a second walk; neither can be constructed; and no count can be reset. `within`: expressions that are
+# refused as `private-field` even in dns_zone, each with its file and the line before which it is put. Neither a walk
+# nor a node reaches an allocator; the search for a child reaches no row, record or key of the tree, and makes or
+# resets no count. `bodies`: see below.
+MISUSE = json.loads((DATA / "misuse.json").read_text())
+
+
+@pytest.fixture(scope="module")
+def zone_library(tmp_path_factory):
+    """A folder outside the repository with a copy of dns_zone, of the crates that it uses, and of what is built of
+    them."""
+    assert run("rt", "lib", cwd=TOP / "crates" / "dns_zone", timeout=7200).returncode == 0
+    folder, lines = tmp_path_factory.mktemp("library"), (TOP / "crates.txt").read_text().splitlines()
+    uses = {line.split(":")[0]: line.split(":")[1].split() for line in lines if ":" in line}
+    names = [name for name in ["dns_zone", *uses["dns_zone"]] if (TOP / "crates" / name).is_dir()]
+    for name in names:
+        for part in ("src", "specs", "proofs", "out/rlib"):
+            if (TOP / "crates" / name / part).is_dir():
+                shutil.copytree(TOP / "crates" / name / part, folder / "crates" / name / part)
+    kept = [line for line in lines if line.split(":")[0] in names]
+    (folder / "crates.txt").write_text("\n".join([*kept, "caller: dns_zone", ""]))
+    (folder / "crates" / "caller" / "src").mkdir(parents=True)
+    return folder / "crates"
+
+
+def errors_of(crate):
+    """The errors that the check prints before it proves anything, or None if it ends well or begins to prove."""
+    done = run("rt", "check", cwd=crate, timeout=7200)
+    said = done.stdout + done.stderr
+    proves = done.returncode == 0 or re.search("^logic=", said, re.M)
+    return None if proves else set(re.findall(r"^src/[a-z/]*\.rt:[0-9:]* error\[([a-z0-9-]*)\]", said, re.M))
+
+
+@pytest.mark.slow
+@pytest.mark.peers("rt")
+@pytest.mark.parametrize("error, expression",
+                         [(None, "if named { own.visits() } else { steps.visits() }"), *MISUSE["caller"]])
+def test_misuse_of_a_walk(zone_library, error, expression):
+    text = (DATA / "caller").read_text().replace("LAST", expression)
+    (zone_library / "caller" / "src" / "lib.rt").write_text(text)
+    assert errors_of(zone_library / "caller") == (error and {error})
+
+
+@pytest.mark.slow
+@pytest.mark.peers("rt")
+@pytest.mark.parametrize("file, expression, line", MISUSE["within"])
+def test_misuse_of_a_tree(zone_library, file, expression, line):
+    source = zone_library / "dns_zone" / "src" / "tree" / file
+    text = source.read_text()
+    try:
+        changed = text.replace(f"\n{line}", f"\n    let _ = {expression};\n{line}", 1)
+        source.write_text(changed)
+        assert changed != text and errors_of(zone_library / "dns_zone") == {"private-field"}
+    finally:
+        source.write_text(text)
+
+
+# ---- bodies that wrongly report that memory is missing
+
+# No contract rejects such a body, because a contract can't state when memory is available. So they can't be must-fail
+# edits. For each: the file, a text that occurs there once, the text that replaces it, the crate of tests, the modules
+# of tests that are run (without proofs), and the test that must fail.
+@pytest.mark.slow
+@pytest.mark.peers("rt")
+@pytest.mark.parametrize("file, old, new, tests, modules, test", MISUSE["bodies"],
+                         ids=[body[-1] for body in MISUSE["bodies"]])
+def test_a_wrong_body_is_noticed(tmp_path, file, old, new, tests, modules, test):
+    crates = tmp_path / "crates"
+    shutil.copytree(TOP / "crates", crates, ignore=shutil.ignore_patterns("out"))
+    for other in ("crates.txt", "HANDLES"):
+        shutil.copy(TOP / other, tmp_path)
+    text = (crates / file).read_text()
+    assert text.count(old) == 1
+    (crates / file).write_text(text.replace(old, new))
+    sources = crates / tests / "src"
+    (sources / "tests.rt").write_text("".join(f"mod {module};\n" for module in modules))
+    for other in (sources / "tests").iterdir():
+        if other.stem not in modules:
+            other.unlink()
+    done = run("rt", "try", "--test", cwd=crates / tests, timeout=7200)
+    said = done.stdout + done.stderr
+    assert "test result: " in said and f"test tests::{test} ... FAILED" in said
