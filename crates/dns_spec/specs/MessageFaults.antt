@@ -8,7 +8,7 @@ use Rattle.std.specs.Bool.{MatchBool}
 use Rattle.dns_spec.specs.Names.{Octets, DomainName, is_name}
 use Rattle.dns_spec.specs.Data.{Field, domain}
 use Rattle.dns_spec.specs.NamesInMessages.{pointer_place}
-use Rattle.dns_spec.specs.ComputedNames.{SpelledName, name_at}
+use Rattle.dns_spec.specs.ComputedNames.{name_at}
 use Rattle.dns_spec.specs.Reading.{field16, data_fields, field_at, several, message_question_at, message_record_at}
 
 -- RFC 1035 4.1.4: the fault at place i of a run of labels that began at place s, by the octet there

@@ -1,5 +1,5 @@
 -- Octets that spell no message have one fault.
-use Rattle.dns_spec.proofs.Common.{◌≡◌, ℕ, zero, suc, ◌+◌, ◌<◌, ◌≤◌, ◌&&◌, Bool, true, false, List, [], ◌∷◌, ◌++◌, length, take, drop, nat_lt, nat_le, slice_get, Option, Some, None, refl, sym, ◌∙◌, ap, ap₂, subst, subst₂, arith, same_Some, none-some, false≢true, le-leb, MatchOption, MatchBool, Octets, DomainName, is_name, Field, number, ipv4, ipv6, domain, string, strings, anything, name_at, field16, field_at, several, message_question_at, message_record_at}
+use Rattle.dns_spec.proofs.Common.{◌≡◌, ℕ, zero, suc, ◌+◌, ◌<◌, ◌≤◌, ◌&&◌, Bool, true, false, List, [], ◌∷◌, ◌++◌, length, take, drop, nat_le, slice_get, Option, Some, None, refl, sym, ◌∙◌, ap, ap₂, subst, subst₂, arith, same_Some, false≢true, MatchOption, MatchBool, Octets, DomainName, is_name, Field, number, ipv4, ipv6, domain, string, strings, anything, name_at, field16, field_at, several, message_question_at, message_record_at}
 use Rattle.dns_spec.specs.NamesInMessages.{pointer_place}
 use Rattle.dns_spec.specs.Reading.{data_fields}
 use Rattle.dns_spec.specs.MessageFaults.{step_fault, RunFault, stopped, too_long, labelled, pointed, NameFault, QuestionFault, FieldFault, FieldsFault, RestFault, RecordFault, SeveralFault, RecordsFault, MessageFault}
