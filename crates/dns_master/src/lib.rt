@@ -2,12 +2,16 @@
 #![tactic(auto)]
 
 mod directive;
+mod earlier;
 mod entry;
 mod entry_words;
 mod fault;
 mod fields;
 mod gathers;
+mod judge;
+mod passing;
 mod pieces;
+mod places;
 mod reader;
 mod record;
 mod run;
