@@ -385,7 +385,8 @@ module _ (o : DomainName) (earlier : List Entry) (k : Earlier) (known : LooksBac
           → Blamed o earlier (directive (codes "$origin") (w ∷ ws)) b
       origin-blamed [] b some p q r = absurd (omega (arith, some))
       origin-blamed (v ∷ ws) b some p q r =
-          blamed-by o earlier (directive (codes "$origin") (w ∷ v ∷ ws)) b DirectiveWords None 2 p q r
+          blamed-by o earlier (directive (codes "$origin") (w ∷ v ∷ ws)) b DirectiveWords None 2
+          p q r
           (inl ((λ m h. h), refl)) refl (inr ((λ none. none n named_word), refl))
 
       pub origin-own : (ws : List Word) → length ws ≡ 0

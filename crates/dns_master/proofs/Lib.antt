@@ -14,3 +14,4 @@ pub mod EntriesLoop
 pub mod ScanSteps
 pub mod EarlierSteps
 pub mod JudgeSteps
+pub mod ListingSteps

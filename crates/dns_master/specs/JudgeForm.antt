@@ -31,8 +31,8 @@ pub record Blamed (o : DomainName) (earlier : List Entry) (s : EntryKind) (b : B
   pub number : NumberIs o earlier s (fault_of b.code) b.number
   pub word : BlamedWord o earlier s (fault_of b.code) b.words
 
--- An entry of this kind has this fault, whatever entries are known; nothing is claimed if allocation
--- failed.
+-- An entry of this kind has this fault, whatever entries are known; nothing is claimed if
+-- allocation failed.
 abbrev pub Blames : Earlier → EntryKind → Blame → Type 0
 Blames k s b =
     b.code ≢ NoMemory → (o : DomainName) (earlier : List Entry) → LooksBack o earlier k
@@ -74,7 +74,8 @@ FieldsOwn k owner f rs =
     (o : DomainName) (earlier : List Entry) → LooksBack o earlier k
     → FieldsGive o earlier owner f rs
 
--- the number of a fault of fields, and the number of words before the one at fault, from the type on
+-- the number of a fault of fields, and the number of words before the one at fault, from the type
+-- on
 abbrev pub FieldsDetail : DomainName → List Entry → Fields → FileFault → Option ℕ → ℕ → Type 0
 FieldsDetail o earlier f bad_ttl number n = (number ≡ None) × IsNoTtl f.ttl
 FieldsDetail o earlier f other_class number n = (number ≡ None) × IsTrue (is_other_class f.class)
@@ -109,7 +110,8 @@ words_to bad_ttl ws n = one_unless is_ttl_word ws
 words_to other_class ws n = one_unless is_class_word ws
 words_to fault ws n = (length ws - length (fields ws).others) + n
 
--- a record with this owner and these words, which follow `before` words of the entry, has this fault
+-- a record with this owner and these words, which follow `before` words of the entry, has this
+-- fault
 abbrev pub RecordBlames : Earlier → DomainName → ℕ → List Word → Blame → Type 0
 RecordBlames k owner before ws b =
     b.code ≢ NoMemory → (o : DomainName) (earlier : List Entry) → LooksBack o earlier k

@@ -12,3 +12,4 @@ pub mod OwnedBody
 pub mod ScanForm
 pub mod EarlierForm
 pub mod JudgeForm
+pub mod ListingForm

@@ -24,8 +24,8 @@ shown_place p = record { begins = p.begins; ends = p.ends }
 abbrev pub words_read : List PlacedToken → List Word
 words_read ps = filter_map (λ (p : PlacedToken). word_of p.token) ps
 
--- an entry of a text of `total` octets was read: its words, their places, the number of octets before
--- its end, and how reading it ends
+-- an entry of a text of `total` octets was read: its words, their places, the number of octets
+-- before its end, and how reading it ends
 pub record Scanned (total : ℕ) (read : List PlacedToken × places.Ending) (words : List Word)
     (spots : List Place) (scan : EntryScan) : Type 0 where
   pub words_are : words_read read.0 ≡ words

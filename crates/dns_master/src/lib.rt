@@ -15,6 +15,7 @@ mod places;
 mod reader;
 mod record;
 mod run;
+mod scanned;
 mod source;
 mod state;
 mod token;

@@ -134,8 +134,8 @@ pub(crate) fn next_line(text: &[u8]) -> &[u8]
     }
 }
 
-/// The lexical fault of an entry, by how reading it ends. `goes_on` is whether the text goes on past
-/// its limit.
+/// The lexical fault of an entry, by how reading it ends. `goes_on` is whether the text goes on
+/// past its limit.
 pub(crate) fn ending_fault(ending: Ending<'_>, goes_on: bool) -> Option<ReadCode>
     ensures { option_map fault_of result
         ≡ ending_fault (extent_by goes_on) (shown_ending ending.entry) }

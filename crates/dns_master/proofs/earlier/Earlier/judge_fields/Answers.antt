@@ -8,7 +8,8 @@ pub returns-then-is_other_class-clause-err : goal.returns-then-is_other_class-cl
 returns-then-is_other_class-clause-err c = λ some o earlier known.
     let stated = rw c.as_ref.ensures.value at c.in-Ok.ensures in
     rw (sym c.fields.view_is)
-    (fields-by o earlier _ _ c.after-then-is_other_class.result OtherClass None 0 c.after-then-is_other_class.ensures.code
+    (fields-by o earlier _ _ c.after-then-is_other_class.result OtherClass None 0
+    c.after-then-is_other_class.ensures.code
     c.after-then-is_other_class.ensures.number c.after-then-is_other_class.ensures.words
     (class-fault o earlier _ _ _ stated (search rules))
     (refl, search rules))
@@ -17,7 +18,8 @@ pub returns-in_default-type_and_words-clause-err : goal.returns-in_default-type_
 returns-in_default-type_and_words-clause-err c = λ some o earlier known.
     let stated = rw c.as_ref.ensures.value at c.in-Ok.ensures in
     rw (sym c.fields.view_is)
-    (fields-by o earlier _ _ c.after-in_default-type_and_words.result BadType None 0 c.after-in_default-type_and_words.ensures.code
+    (fields-by o earlier _ _ c.after-in_default-type_and_words.result BadType None 0
+    c.after-in_default-type_and_words.ensures.code
     c.after-in_default-type_and_words.ensures.number c.after-in_default-type_and_words.ensures.words
     (type-fault o earlier _ _ _ stated (search rules) c.in_default-type_and_words.ensures)
     (refl, refl))
@@ -27,7 +29,8 @@ returns-in_default-ttl_in_force-clause-err c = λ some o earlier known.
     let stated = rw c.as_ref.ensures.value at c.in-Ok.ensures in
     let in_force = rw c.as_ref-3.ensures.value at c.ttl_in_force.ensures o earlier known in
     rw (sym c.fields.view_is)
-    (fields-by o earlier _ _ c.after-in_default-ttl_in_force.result NoTtl None 0 c.after-in_default-ttl_in_force.ensures.code
+    (fields-by o earlier _ _ c.after-in_default-ttl_in_force.result NoTtl None 0
+    c.after-in_default-ttl_in_force.ensures.code
     c.after-in_default-ttl_in_force.ensures.number c.after-in_default-ttl_in_force.ensures.words
     (no_ttl-blamed o earlier _ _ _ _ _ stated (search rules) c.in-Some.ensures.0 in_force
     c.in_default-ttl_in_force.is)
@@ -59,7 +62,8 @@ returns-in-Err-clause-few c = elim c.data_blame.ensures [
       rw (sym c.fields.view_is)
       (few_by c.data_blame.result c.read_words_in.new.room.faulty _ h.words
       (fields-data_few c.in-Some.rtype.0 (words_left c.fields.inside.others)
-      c.args.self.now.origin c.read_words_in.new.room.faulty (rw c.in-Some.ensures.1 at c.in-Err.ensures.faulty h.other)))
+      c.args.self.now.origin c.read_words_in.new.room.faulty (rw c.in-Some.ensures.1 at
+      c.in-Err.ensures.faulty h.other)))
 ]
 
 pub returns-then-self-ge-MOST_RECORDS-clause-err :
@@ -89,7 +93,8 @@ returns-in-Some-ttl-clause-ok c = λ o earlier known.
     (record-own o earlier _ _ _ _ _ stated (search rules) c.in-Some.ensures.0 in_force
     c.in-Some-ttl_in_force.ttl c.in-Some-ttl_in_force.is _ known.origin_is known.no_other _
     (rw c.in-Some.ensures.1 at c.in-Ok-read_words_in.ensures.ok)
-    c.in-Some-ttl.ttl c.in-Some-ttl.is c.requires.low (ap (nat_le 100000) (sym known.count_is) ∙ few)))
+    c.in-Some-ttl.ttl c.in-Some-ttl.is c.requires.low (ap (nat_le 100000) (sym known.count_is) ∙
+    few)))
 
 pub returns-in-Some-ttl-clause-kept : goal.returns-in-Some-ttl-clause-kept
 returns-in-Some-ttl-clause-kept c =

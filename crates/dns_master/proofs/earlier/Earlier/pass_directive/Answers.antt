@@ -32,7 +32,10 @@ returns-then-is_word-2-clause-passed c = λ o earlier e known is.
 
 pub returns-else-is_word-2-clause-passed : goal.returns-else-is_word-2-clause-passed
 returns-else-is_word-2-clause-passed c = λ o earlier e known is.
-    directive-passed o earlier e _ known (text_in_lower_case c.args.name.now) (c.in-Some.first ∷ words_left c.in-Some.field-0-1)
+    directive-passed o earlier e _ known (text_in_lower_case c.args.name.now) (c.in-Some.first ∷
+    words_left c.in-Some.field-0-1)
     (is ∙ ap (directive (text_in_lower_case c.args.name.now)) c.in-Some.ensures)
-    (other_origin (text_in_lower_case c.args.name.now) c.in-Some.first (words_left c.in-Some.field-0-1) (search rules))
-    (other_default (text_in_lower_case c.args.name.now) c.in-Some.first (words_left c.in-Some.field-0-1) (search rules))
+    (other_origin (text_in_lower_case c.args.name.now) c.in-Some.first (words_left
+    c.in-Some.field-0-1) (search rules))
+    (other_default (text_in_lower_case c.args.name.now) c.in-Some.first (words_left
+    c.in-Some.field-0-1) (search rules))
