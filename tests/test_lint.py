@@ -469,6 +469,16 @@ def test_remedies_that_are_sure_are_written(lint, tmp_path):
     assert (tmp_path / "z").read_text() == wanted
 
 
+def test_remedies_are_written_to_the_file_that_a_link_names(lint, tmp_path):
+    (tmp_path / "real").write_text(GOOD + "w IN IN A 192.0.2.2\n")
+    (tmp_path / "real").chmod(0o640)
+    (tmp_path / "link").symlink_to("real")
+    lint("--fix", "example.com", "link")
+    assert (tmp_path / "link").is_symlink() and (tmp_path / "real").read_text() == GOOD + "w IN A 192.0.2.2\n"
+    assert (tmp_path / "real").stat().st_mode & 0o777 == 0o640
+    assert sorted(path.name for path in tmp_path.iterdir()) == ["link", "real"]
+
+
 def test_which_zones_are_checked(lint, tmp_path):
     rooted = GOOD.replace("@ SOA", "$ORIGIN own.example.\n@ SOA")
     for name, text in {"example.com.zone": GOOD, "db.example.org": GOOD, "192.0.2.db": GOOD, "notes.txt": "no zone",

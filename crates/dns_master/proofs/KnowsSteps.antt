@@ -35,14 +35,14 @@ one-short (w ∷ []) n h = h.2
 one-short (w ∷ v ∷ ws) n h = absurd h
 
 -- whether an entry of this kind is a record
-abbrev counts_as_record : EntryKind → Bool
+abbrev pub counts_as_record : EntryKind → Bool
 counts_as_record s =
     elim s [ no_words ↦ false | directive n ws ↦ false | owned w ws ↦ true | unowned ws ↦ true ]
 
-abbrev counted : Bool → ℕ → ℕ
+abbrev pub counted : Bool → ℕ → ℕ
 counted b n = cond b (n + 1) n
 
-length-counted : (b : Bool) (e : Entry) (es : List Entry)
+pub length-counted : (b : Bool) (e : Entry) (es : List Entry)
     → length (cond b (e ∷ es) es) ≡ counted b (length es)
 length-counted true e es = omega arith
 length-counted false e es = refl

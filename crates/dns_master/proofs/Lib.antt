@@ -11,3 +11,7 @@ pub mod TextSteps
 pub mod PieceSteps
 pub mod SourceSteps
 pub mod EntriesLoop
+pub mod ScanSteps
+pub mod EarlierSteps
+pub mod JudgeSteps
+pub mod ListingSteps

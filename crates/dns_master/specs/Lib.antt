@@ -9,3 +9,7 @@ pub mod ReaderForm
 pub mod SourceForm
 pub mod PieceForm
 pub mod OwnedBody
+pub mod ScanForm
+pub mod EarlierForm
+pub mod JudgeForm
+pub mod ListingForm

@@ -98,13 +98,13 @@ fn one_later<'a>(later: LaterWords<'a>, rest: &'a [u8]) -> LaterWords<'a>
 // What follows a token: nothing, because the token is a misplaced parenthesis or ends the entry; or
 // more tokens, inside (true) or outside parentheses.
 #[derive(Clone, Copy)]
-enum Progress {
+pub(crate) enum Progress {
     Misplaced,
     Over,
     Onward(bool),
 }
 
-fn step_after(token: Token<'_>, is_open: bool) -> Progress
+pub(crate) fn step_after(token: Token<'_>, is_open: bool) -> Progress
     ensures { shown_step result ≡ step is_open (shown_token token.entry) }
 {
     match token {
@@ -198,4 +198,23 @@ fn token_fault(place: &[u8]) -> ReadCode
         return ReadCode::BadEscape;
     }
     ReadCode::BadOctet
+}
+
+/// The fault of an entry before a text with which no token begins.
+pub(crate) fn stop_fault(rest: &[u8], is_open: bool, goes_on: bool) -> Option<ReadCode>
+    ensures { option_map fault_of result
+        ≡ stop_fault (extent_by goes_on) is_open (stop_at rest.now) }
+{
+    let later = LaterWords {
+        text: rest,
+        count: 0,
+    };
+    let end = EntryEnd {
+        later,
+        lines: 0,
+        is_ended: false,
+        is_open,
+        rest,
+    };
+    end_fault(&end, goes_on)
 }

@@ -73,7 +73,7 @@ impl<'a, 'w> Fields<'a, 'w> {
 }
 
 // Whether a word is unquoted and begins with a digit.
-fn is_ttl_word(word: &Word<'_>) -> bool
+pub(crate) fn is_ttl_word(word: &Word<'_>) -> bool
     ensures { result ≡ is_ttl_word word.now }
 {
     !word.quoted && word.raw.first().is_some_and(|first| first.is_ascii_digit())
@@ -82,7 +82,7 @@ fn is_ttl_word(word: &Word<'_>) -> bool
 // Whether a word is unquoted and, in letters of either case, is the mnemonic of a class or begins
 // with `CLASS`, as `CLASS1` does (RFC 1035 3.2.4, RFC 3597 5).
 #[inline(always)]
-fn is_class_word(word: &Word<'_>) -> bool
+pub(crate) fn is_class_word(word: &Word<'_>) -> bool
     ensures { result ≡ is_class_word word.now }
 {
     let raw = word.raw;

@@ -2,15 +2,20 @@
 #![tactic(auto)]
 
 mod directive;
+mod earlier;
 mod entry;
 mod entry_words;
 mod fault;
 mod fields;
 mod gathers;
+mod judge;
+mod passing;
 mod pieces;
+mod places;
 mod reader;
 mod record;
 mod run;
+mod scanned;
 mod source;
 mod state;
 mod token;

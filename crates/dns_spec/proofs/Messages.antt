@@ -4,3 +4,4 @@ pub mod NameReading
 pub mod Places
 pub mod Sections
 pub mod Question
+pub mod OneFault

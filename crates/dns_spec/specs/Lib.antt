@@ -21,6 +21,7 @@ pub mod AllFaults
 pub mod NamesInMessages
 pub mod ComputedNames
 pub mod Reading
+pub mod MessageFaults
 pub mod Query
 pub mod Layout
 pub mod LayoutSize

@@ -8,6 +8,7 @@ use Rattle.dns_spec.specs.Data.{class_in}
 use Rattle.dns_spec.specs.TypeText.{type_text}
 use Rattle.dns_spec.specs.WrittenText.{hex_text, data_text}
 use Rattle.dns_spec.specs.Report.{Report}
+use Rattle.dns_spec.specs.MessageFaults.{MessageFault}
 use Rattle.dns_spec.specs.Reading.{MessageQuestion, MessageRecord, DnsMessage, Spells, NoMessage}
 use Rattle.dns_spec.specs.Layout.{octets16}
 use Rattle.dns_spec.specs.Lines.{lines, line_message}
@@ -50,12 +51,12 @@ message_text m =
     ++ flat_map (section_line (codes "additional")) m.additionals
 
 -- What is printed for octets: the lines of the message that they spell; or, if they spell none, a
--- line with the number of a fault, 1 to 6. Which number is not defined here.
+-- line with the number of their first fault, 1 to 6.
 abbrev pub PrintsOctets : Octets → Report → Type 0
 PrintsOctets b report =
     ((m : DnsMessage) × Spells b m
     × (report ≡ record { output = message_text m; passes = true }))
-    ⊎ (NoMessage b × ((n : ℕ) × (1 ≤ n) × (n ≤ 6)
+    ⊎ (NoMessage b × ((n : ℕ) × MessageFault b n × (1 ≤ n) × (n ≤ 6)
     × (report ≡ record { output = codes "fault " ++ decimal n ++ codes "\n"; passes = false })))
 
 -- what is printed for a line that is a message in hex digits, and for any other line

@@ -4,6 +4,7 @@ ghost use Rattle.std.specs.Prelude.{◌≡◌, ℕ, ◌≤◌, Some, ◌↔◌, 
 ghost use Rattle.dns_spec.specs.Names.{Octets, DomainName};
 ghost use Rattle.dns_spec.specs.NamesInMessages.{NameAt};
 ghost use Rattle.dns_spec.specs.ComputedNames.{name_at};
+ghost use Rattle.dns_spec.specs.MessageFaults.{MessageFault};
 ghost use Rattle.dns_spec.specs.Reading.{MessageQuestion};
 ghost use Rattle.dns_spec.specs.Query.{question_at};
 
@@ -24,4 +25,9 @@ pub fn place_spells_one_name()
 /// the header, 255 for the name, and 4 for QTYPE and QCLASS (RFC 1035 4.1.2).
 pub fn question_ends_by_octet_271()
     ensures { (d : Octets) (q : MessageQuestion) → question_at d ≡ Some q → length d ≤ 271 }
+{}
+
+/// Octets have at most one first fault.
+pub fn message_has_one_fault()
+    ensures { (b : Octets) (f g : ℕ) → MessageFault b f → MessageFault b g → f ≡ g }
 {}

@@ -1,5 +1,6 @@
 -- What was printed for a message, a fault or a line is what a run must print.
 use Rattle.dns_tools.proofs.Common.{◌≡◌, ◌≢◌, ℕ, ◌≤◌, Bool, false, Option, Some, None, Result, Ok, Err, codes, refl, sym, subst, arith, inr, Octets, Report, IfErr, NoMessage, PrintsOctets, PrintsMessage, UnlessNoMemory, WireFault, Short, ReservedLabel, BadPointer, LongName, BadData, Trailing, NoMemory, Stop, Memory, Source, Sink, source_failures_after, sink_failures_after, ReportedAs, KeptLine, kept_message, HasReadFront, ReadsFirst, IsFaultReport, PrintedAs}
+use Rattle.dns_spec.specs.MessageFaults.{MessageFault}
 use Rattle.dns_wire.specs.WireFault.{fault_code}
 
 code_within : (fault : WireFault)
@@ -13,19 +14,22 @@ code_within Trailing h = (omega arith, omega arith)
 code_within NoMemory h = absurd (h refl)
 
 fault_prints : (b : Octets) (fault : WireFault) → UnlessNoMemory fault (NoMessage b)
+    → UnlessNoMemory fault (MessageFault b (fault_code fault))
     → (report : Report) → IsFaultReport fault report → PrintsOctets b report
-fault_prints b fault none report (other, is) = inr
-    (none other, (fault_code fault, (code_within fault other).0, (code_within fault other).1, is))
+fault_prints b fault none first report (other, is) =
+    let within = code_within fault other in
+    inr (none other, (fault_code fault, first other, within.0, within.1, is))
 
 pub fault_reported : (b : Octets) (fault : WireFault)
     (result : Result Bool Stop) (old new : Option Octets) → UnlessNoMemory fault (NoMessage b)
+    → UnlessNoMemory fault (MessageFault b (fault_code fault))
     → ReportedAs (IsFaultReport fault) result old new → ReportedAs (PrintsOctets b) result old new
-fault_reported b fault (Ok passes) old new none (report, is, written) =
-    (report, fault_prints b fault none report is, written)
-fault_reported b fault (Err Sink) old new none (report, is, written) =
-    (report, fault_prints b fault none report is, written)
-fault_reported b fault (Err Memory) old new none same = same
-fault_reported b fault (Err Source) old new none same = same
+fault_reported b fault (Ok passes) old new none first (report, is, written) =
+    (report, fault_prints b fault none first report is, written)
+fault_reported b fault (Err Sink) old new none first (report, is, written) =
+    (report, fault_prints b fault none first report is, written)
+fault_reported b fault (Err Memory) old new none first same = same
+fault_reported b fault (Err Source) old new none first same = same
 
 -- a line that is a message
 pub line_reported : (m : Option Octets)

@@ -1,5 +1,7 @@
 -- Questions or records are read one after another.
 use Rattle.dns_wire.proofs.Common.{◌≡◌, ℕ, zero, suc, ◌<◌, List, [], ◌∷◌, ◌++◌, Option, Some, None, option_map, ◌∙◌, arith, append_assoc, append-nil, several, AreRead}
+use Rattle.dns_spec.specs.MessageFaults.{SeveralFault}
+use Rattle.dns_wire.specs.Read.{KeepsFault}
 
 module _ {A : Type 0} {read : ℕ → Option (A × ℕ)} {count i j left : ℕ} {so_far : List A}
     (so : AreRead read count i so_far left j) where
@@ -20,3 +22,19 @@ module _ {A : Type 0} {read : ℕ → Option (A × ℕ)} {count i j left : ℕ} 
   pub read_end : left ≡ 0 → several read count i ≡ Some (so_far, j)
   unfolding several
   read_end done = grind (arith, append-nil)
+
+module _ {A : Type 0} {read : ℕ → Option (A × ℕ)} {Fault : ℕ → ℕ → Type 0} {count i j left : ℕ}
+    (keeps : KeepsFault read Fault count i left j) where
+  pub fault_more : (rest : ℕ) (x : A) (e : ℕ) → left ≡ suc rest → read j ≡ Some (x, e)
+      → KeepsFault read Fault count i rest e
+  fault_more rest x e more one = record {
+    faults = λ f fault. keeps.faults f (rw more (rw one fault));
+  }
+
+  pub fault_here : (f : ℕ) → 0 < left → read j ≡ None → Fault j f
+      → SeveralFault read Fault count i f
+  fault_here f some none fault = keeps.faults f (go left some)
+    where
+      go : (left : ℕ) → 0 < left → SeveralFault read Fault left j f
+      go zero some = absurd (omega arith)
+      go (suc left) some = rw none fault

@@ -1,5 +1,8 @@
 -- What is at a place in a run of labels determines how the run continues.
-use Rattle.dns_wire.proofs.Common.{pointer_place, ◌≡◌, ℕ, ◌+◌, ◌<◌, ◌≤◌, true, IfSome, [], ◌∷◌, ◌++◌, length, take, drop, get_or, slice_get, Option, Some, refl, sym, ap, ◌∙◌, subst, arith, append_assoc, append-nil, length-append, same_Some, slice_get_within, slice_get-get_or, Octets, DomainName, wire, is_name, RunAt, NameAt, ends, goes_on, jumps, length-take-le, length-drop, LabelAt, PointerAt, NoRunAt, name_at, name_at_computes, name_computed, None, IsReading, end_or}
+use Rattle.dns_spec.specs.MessageFaults.{RunFault, NameFault, step_fault, stopped, too_long, labelled, pointed}
+use Rattle.dns_wire.specs.declared.fault.WireFault.{WireFault}
+use Rattle.dns_wire.specs.WireFault.{fault_code}
+use Rattle.dns_wire.proofs.Common.{pointer_place, ◌≡◌, ℕ, ◌+◌, ◌<◌, ◌≤◌, true, IfSome, [], ◌∷◌, ◌++◌, length, take, drop, get_or, slice_get, Option, Some, refl, sym, ap, ◌∙◌, subst, arith, false, append_assoc, append-nil, length-append, same_Some, slice_get_within, slice_get-get_or, Octets, DomainName, wire, is_name, RunAt, NameAt, ends, goes_on, jumps, length-take-le, length-drop, LabelAt, PointerAt, NoRunAt, name_at, name_at_computes, name_computed, None, IsReading, end_or}
 
 -- how a run continues from place i: with its end, a label, or a pointer
 pub data GoesOn (b : Octets) (s i : ℕ) (n : DomainName) (e : ℕ) : Type 0 where
@@ -85,6 +88,9 @@ reading_label {b} {at} {s} {i} {n} {end} l reading there ok = record {
   is_name = ok;
   within = omega (arith, there.within);
   end_within = reading.end_within;
+  faults = λ f fault. reading.faults f (labelled i (length l) l f there.length_there there.some
+      there.short there.within there.label ok (subst (λ j. RunFault b (n ++ l ∷ []) s j f) next
+      fault));
   forth = λ m e run. subst (λ w. RunAt b at at w (end_or end e)) (sym (append_assoc n (l ∷ []) m))
       (reading.forth (l ∷ m) e (goes_on i (length l) l m e there.length_there
       there.some there.short there.within there.label (subst (λ j. RunAt b s j m e) next run)));
@@ -136,6 +142,8 @@ reading_jumps {b} {at} {s} {i} {p} {n} {end} reading there inside = record {
   within = omega (arith, there.before_run);
   end_within = end_fits b end (i + 2) reading.end_within
       (omega (arith, slice_get_within b (i + 1) there.second there.second_there));
+  faults = λ f fault. reading.faults f (pointed i there.first there.second p f there.first_there
+      there.high there.second_there there.place there.after_header there.before_run fault);
   forth =
       λ m e run. reading.forth m (i + 2) (jumps i there.first there.second p m e there.first_there
       there.high there.second_there there.place there.after_header there.before_run run);
@@ -149,3 +157,19 @@ reading_jumps {b} {at} {s} {i} {p} {n} {end} reading there inside = record {
         absurd (omega (arith, same_Some there.first 0 (sym there.first_there ∙ root), there.high))
     go w f m e q r (at_label k rest label shape run) = grind arith
     go w f m e q r (at_pointer place d pointer is run) = grind arith
+
+-- a fault has a number, which is the name's fault if it is found at the next step
+code_some : (fault : WireFault) → 0 < fault_code fault
+code_some fault = grind arith
+
+pub reading_stopped : {b : Octets} {at s i : ℕ} {n : DomainName} {end : Option ℕ}
+    → IsReading b at n s i end → (fault : WireFault)
+    → step_fault b s i (slice_get b i) ≡ fault_code fault → NameFault b at (fault_code fault)
+reading_stopped {i = i} reading fault is =
+    reading.faults (fault_code fault) (stopped i (fault_code fault) is (code_some fault))
+
+pub reading_too_long : {b : Octets} {at s i : ℕ} {n : DomainName} {end : Option ℕ} (l : Octets)
+    → IsReading b at n s i end → LabelAt b i l → is_name (n ++ l ∷ []) ≡ false → NameFault b at 4
+reading_too_long {i = i} l reading there long =
+    reading.faults 4 (too_long i (length l) l there.length_there there.some there.short there.within
+    there.label long)

@@ -4,6 +4,7 @@ use Rattle.std.specs.Option.{option_map}
 use Rattle.dns_spec.specs.Names.{Octets}
 use Rattle.dns_spec.specs.Data.{Field}
 use Rattle.dns_spec.specs.Reading.{field_at, fields_at}
+use Rattle.dns_spec.specs.MessageFaults.{FieldsFault}
 
 -- the field is read: its octets are appended, and it ends within the data
 pub record IsFieldRead (b : Octets) (p : Field) (i e : ℕ) (old new : Octets) (j : ℕ) : Type 0 where
@@ -13,8 +14,9 @@ pub record IsFieldRead (b : Octets) (p : Field) (i e : ℕ) (old new : Octets) (
   pub inside : j ≤ e
 
 -- The invariant of reading fields: the octets so far, followed by what the remaining fields spell
--- from place j on, are what all the fields spell from place i on.
+-- from place j on, are what all the fields spell from place i on; and their fault is that of all.
 pub record AreFieldsRead (b : Octets) (ps : List Field) (i e : ℕ) (left : List Field) (j : ℕ)
     (so_far : Octets) : Type 0 where
   pub inside : j ≤ e
   pub same : fields_at b ps i e ≡ option_map (λ d. so_far ++ d) (fields_at b left j e)
+  pub faults : (f : ℕ) → FieldsFault b left j e f → FieldsFault b ps i e f

@@ -3,6 +3,7 @@ use Rattle.std.specs.Prelude.{◌≡◌, ℕ, ◌+◌, ◌<◌, ◌≤◌, ◌++
 use Rattle.std.specs.Option.{unwrap_or}
 use Rattle.dns_spec.specs.Names.{Octets, DomainName, is_name}
 use Rattle.dns_spec.specs.NamesInMessages.{pointer_place, RunAt}
+use Rattle.dns_spec.specs.MessageFaults.{RunFault, NameFault}
 use Rattle.dns_wire.specs.declared.name.NameStep.{NameStep}
 use Rattle.dns_wire.specs.declared.name.NameStep.TheVariants.{End, Label, Jump}
 
@@ -41,12 +42,13 @@ end_or end e = unwrap_or end e
 
 -- The invariant of reading a name from place `at`: the labels so far, followed by what the current
 -- run spells from place i on, are what the message spells at place `at`, and it spells nothing else
--- there.
+-- there; and a fault from place i on is the name's fault.
 pub record IsReading (b : Octets) (at : ℕ) (n : DomainName) (s i : ℕ)
     (end : Option ℕ) : Type 0 where
   pub is_name : IsTrue (is_name n)
   pub within : i ≤ length b
   pub end_within : IfSome end (λ e. e ≤ length b)
   pub forth : (m : DomainName) (e : ℕ) → RunAt b s i m e → RunAt b at at (n ++ m) (end_or end e)
+  pub faults : (f : ℕ) → RunFault b n s i f → NameFault b at f
   pub back : (w : DomainName) (f : ℕ) → RunAt b at at w f
       → (m : DomainName) × (e : ℕ) × RunAt b s i m e × (w ≡ n ++ m) × (f ≡ end_or end e)

@@ -5,6 +5,7 @@ use Rattle.std.specs.Option.{option_map}
 use Rattle.dns_spec.specs.Data.{class_in, Valid}
 use Rattle.dns_spec.specs.Names.{Octets}
 use Rattle.dns_spec.specs.Reading.{Header, head_of, field16, several}
+use Rattle.dns_spec.specs.MessageFaults.{SeveralFault}
 use Rattle.dns_wire.specs.declared.message.Counts.{Counts}
 
 -- The type that determines the form of a record's data. In a class other than IN it is 0, a type
@@ -31,3 +32,8 @@ pub record AreRead {A : Type 0} (read : ℕ → Option (A × ℕ)) (count i : �
     (left j : ℕ) : Type 0 where
   pub same :
       several read count i ≡ option_map (λ r. (so_far ++ r.0, r.1)) (several read left j)
+
+-- the fault of the `left` that are read from place j on is that of all
+pub record KeepsFault {A : Type 0} (read : ℕ → Option (A × ℕ)) (Fault : ℕ → ℕ → Type 0)
+    (count i left j : ℕ) : Type 0 where
+  pub faults : (f : ℕ) → SeveralFault read Fault left j f → SeveralFault read Fault count i f

@@ -1,10 +1,11 @@
 //! Reads the data of records, whose names may be compressed (RFC 1035 3.3 and 4.1.4).
 ghost use Rattle.std.specs.Prelude.{◌≡◌, ◌+◌, ◌≤◌, length, Some, None, IfOk, IfErr};
-ghost use Rattle.dns_spec.specs.Reading.{data_at, field_at};
+ghost use Rattle.dns_spec.specs.MessageFaults.{FieldFault, FieldsFault};
+ghost use Rattle.dns_spec.specs.Reading.{data_at, data_fields, field_at};
 ghost use Rattle.dns_rdata.specs.TypeRows.{field_of};
 ghost use Rattle.dns_wire.specs.FieldReads.{IsFieldRead};
 ghost use Rattle.dns_wire.specs.Read.{IsWireData};
-ghost use Rattle.dns_wire.specs.WireFault.{UnlessNoMemory};
+ghost use Rattle.dns_wire.specs.WireFault.{UnlessNoMemory, fault_code};
 
 use crate::fault::WireFault;
 use crate::message::CLASS_IN;
@@ -35,6 +36,8 @@ pub(crate) fn read_data(
     ensures valid { IfOk result (λ read. IsWireData rtype.0 rclass read.items) }
     ensures err { IfErr result
         (λ fault. UnlessNoMemory fault (data_at message.now rtype.0 rclass at end ≡ None)) }
+    ensures fault { IfErr result (λ fault. UnlessNoMemory fault
+        (FieldsFault message.now (data_fields rtype.0 rclass) at end (fault_code fault))) }
 {
     let mut data = Vec::new(alloc);
     let mut place = at;
@@ -70,6 +73,8 @@ fn read_field(
         written.old.items written.new.items place) }
     ensures err { IfErr result
         (λ fault. UnlessNoMemory fault (field_at message.now (field_of field) at end ≡ None)) }
+    ensures fault { IfErr result (λ fault. UnlessNoMemory fault
+        (FieldFault message.now (field_of field) at (fault_code fault))) }
 {
     if let Field::Domain = field {
         let (name, place) = read_name(message, at)?;

@@ -1,7 +1,9 @@
 //! Reads names in a message, and follows their pointers (RFC 1035 4.1.4).
-ghost use Rattle.std.specs.Prelude.{◌≡◌, ◌≤◌, ◌<◌, length, get_or, Some, None, IfOk, IsErr, IfSome, IsNone};
+ghost use Rattle.std.specs.Prelude.{◌≡◌, ◌+◌, ◌≤◌, ◌<◌, length, get_or, slice_get, Some, None, IfOk, IfErr, IsErr, IfSome, IsNone};
 ghost use Rattle.dns_spec.specs.ComputedNames.{name_at};
+ghost use Rattle.dns_spec.specs.MessageFaults.{NameFault, step_fault, pointer_fault};
 ghost use Rattle.dns_wire.specs.Labels.{StepAt, PointerAt, NoRunAt};
+ghost use Rattle.dns_wire.specs.WireFault.{fault_code};
 
 use crate::fault::WireFault;
 use crate::message::HEADER_OCTETS;
@@ -29,6 +31,7 @@ pub(crate) fn read_name(message: &[u8], at: usize) -> Result<(Name, usize), Wire
     ensures name { IfOk result (λ read. name_at message.now at ≡ Some (read.0, read.1)) }
     ensures within { IfOk result (λ read. read.1 ≤ length message.now) }
     ensures none { IsErr result → name_at message.now at ≡ None }
+    ensures fault { IfErr result (λ fault. NameFault message.now at (fault_code fault)) }
 {
     let mut name = Name::root();
     let mut run = at;
@@ -57,6 +60,8 @@ pub(crate) fn read_name(message: &[u8], at: usize) -> Result<(Name, usize), Wire
 pub(crate) fn step_at(message: &[u8], run: usize, place: usize) -> Result<NameStep<'_>, WireFault>
     ensures step { IfOk result (λ step. StepAt message.now run place step) }
     ensures none { IsErr result → NoRunAt message.now run place }
+    ensures fault { IfErr result (λ fault.
+        step_fault message.now run place (slice_get message.now place) ≡ fault_code fault) }
 {
     let octet = message.get(place).ok_or(WireFault::Short)?;
     match *octet {
@@ -82,6 +87,8 @@ fn pointer_at(message: &[u8], run: usize, place: usize) -> Result<usize, WireFau
     requires high { 192 ≤ get_or message.now place 0 }
     ensures jump { IfOk result (λ target. PointerAt message.now run place target) }
     ensures none { IsErr result → NoRunAt message.now run place }
+    ensures fault { IfErr result (λ fault. pointer_fault run (get_or message.now place 0)
+        (slice_get message.now (place + 1)) ≡ fault_code fault) }
 {
     let second = message.get(place + 1).ok_or(WireFault::Short)?;
     let target = (usize::from(message[place]) - 192) * 256 + usize::from(*second);

@@ -1,6 +1,7 @@
 //! Reads big-endian numbers in a message (RFC 1035 2.3.2).
-ghost use Rattle.std.specs.Prelude.{◌≡◌, ◌+◌, ◌<◌, ◌≤◌, ◌↔◌, length, take, drop, IfOk, IsErr};
+ghost use Rattle.std.specs.Prelude.{◌≡◌, ◌+◌, ◌<◌, ◌≤◌, ◌↔◌, length, take, drop, IfOk, IfErr, IsErr};
 ghost use Rattle.dns_spec.specs.Reading.{field16, field32};
+ghost use Rattle.dns_wire.specs.WireFault.{fault_code};
 
 use crate::fault::WireFault;
 
@@ -10,6 +11,7 @@ pub(crate) fn read_u16(message: &[u8], at: usize) -> Result<u16, WireFault>
     ensures ok { IfOk result (λ number. number ≡ field16 message.now at) }
     ensures within { IfOk result (λ number. at + 2 ≤ length message.now) }
     ensures err { IsErr result → length message.now < at + 2 }
+    ensures short { IfErr result (λ fault. fault_code fault ≡ 1) }
 {
     Ok(u16::from_be_bytes(octets_at(message, at)?))
 }
@@ -20,6 +22,7 @@ pub(crate) fn read_u32(message: &[u8], at: usize) -> Result<u32, WireFault>
     ensures ok { IfOk result (λ number. number ≡ field32 message.now at) }
     ensures within { IfOk result (λ number. at + 4 ≤ length message.now) }
     ensures err { IsErr result → length message.now < at + 4 }
+    ensures short { IfErr result (λ fault. fault_code fault ≡ 1) }
 {
     Ok(u32::from_be_bytes(octets_at(message, at)?))
 }
@@ -28,7 +31,8 @@ pub(crate) fn read_u32(message: &[u8], at: usize) -> Result<u32, WireFault>
 fn octets_at<const N: usize>(message: &[u8], at: usize) -> Result<[u8; N], WireFault>
     requires { at ≤ length message.now }
     ensures ok { IfOk result (λ octets. octets ≡ take N (drop at message.now)) }
-    ensures short { IsErr result ↔ length message.now < at + N }
+    ensures err { IsErr result ↔ length message.now < at + N }
+    ensures short { IfErr result (λ fault. fault_code fault ≡ 1) }
 {
     message[at..].first_chunk().copied().ok_or(WireFault::Short)
 }

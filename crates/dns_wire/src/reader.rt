@@ -1,8 +1,9 @@
 //! Reads messages from octets (RFC 1035 4.1).
-ghost use Rattle.std.specs.Prelude.{◌≡◌, ◌≤◌, ◌<◌, length, Some, None, IfOk, IfErr};
+ghost use Rattle.std.specs.Prelude.{◌≡◌, ◌≤◌, ◌<◌, length, Some, None, IfOk, IfErr, IsErr};
+ghost use Rattle.dns_spec.specs.MessageFaults.{MessageFault, QuestionFault, RecordFault, SeveralFault};
 ghost use Rattle.dns_spec.specs.Reading.{Spells, NoMessage, several, message_question_at, message_record_at};
 ghost use Rattle.dns_wire.specs.Read.{HeaderAt};
-ghost use Rattle.dns_wire.specs.WireFault.{UnlessNoMemory};
+ghost use Rattle.dns_wire.specs.WireFault.{UnlessNoMemory, fault_code};
 
 use crate::data::read_data;
 use crate::fault::WireFault;
@@ -23,6 +24,8 @@ type Read<T> = Result<(T, usize), WireFault>;
 pub fn read_message(alloc: Global, octets: &[u8]) -> Result<Message, WireFault>
     ensures ok { IfOk result (λ message. Spells octets.now message) }
     ensures err { IfErr result (λ fault. UnlessNoMemory fault (NoMessage octets.now)) }
+    ensures fault { IfErr result
+        (λ fault. UnlessNoMemory fault (MessageFault octets.now (fault_code fault))) }
 {
     let (head, counts) = read_header(octets)?;
     let (questions, at) = read_questions(alloc, octets, counts.questions, HEADER_OCTETS)?;
@@ -44,6 +47,7 @@ pub fn read_message(alloc: Global, octets: &[u8]) -> Result<Message, WireFault>
 fn read_header(octets: &[u8]) -> Result<(Head, Counts), WireFault>
     ensures ok { IfOk result (λ read. HeaderAt octets.now read.0 read.1) }
     ensures err { IfErr result (λ fault. length octets.now < 12) }
+    ensures fault { IfErr result (λ fault. fault_code fault ≡ 1) }
 {
     if octets.len() < HEADER_OCTETS {
         return Err(WireFault::Short);
@@ -61,7 +65,7 @@ fn read_header(octets: &[u8]) -> Result<(Head, Counts), WireFault>
     Ok((head, counts))
 }
 
-#[tactic(auto, using(crate::proofs::ReadLemmas::read_none, crate::proofs::ReadLemmas::read_more, crate::proofs::ReadLemmas::read_end))]
+#[tactic(auto, using(crate::proofs::ReadLemmas::read_none, crate::proofs::ReadLemmas::read_more, crate::proofs::ReadLemmas::read_end, crate::proofs::ReadLemmas::fault_more, crate::proofs::ReadLemmas::fault_here))]
 fn read_questions(alloc: Global, message: &[u8], count: u16, at: usize) -> Read<Vec<Question>>
     requires { at ≤ length message.now }
     ensures ok { IfOk result
@@ -69,24 +73,38 @@ fn read_questions(alloc: Global, message: &[u8], count: u16, at: usize) -> Read<
     ensures within { IfOk result (λ read. read.1 ≤ length message.now) }
     ensures err { IfErr result (λ fault. UnlessNoMemory fault
         (several (message_question_at message.now) count at ≡ None)) }
+    ensures fault { IfErr result (λ fault. UnlessNoMemory fault
+        (SeveralFault (message_question_at message.now) (QuestionFault message.now) count at
+        (fault_code fault))) }
 {
-    let mut questions = Vec::new(alloc);
     let mut place = at;
+    let mut questions = Vec::new(alloc);
     'questions: for _ in 0..count {
-        let (name, after) = read_name(message, place)?;
-        let qtype = read_u16(message, after)?;
-        let qclass = read_u16(message, after + 2)?;
-        questions.push(Question {
-            name,
-            qtype,
-            qclass,
-        })?;
-        place = after + 4;
+        let (question, after) = read_question(message, place)?;
+        questions.push(question)?;
+        place = after;
     }
     Ok((questions, place))
 }
 
-#[tactic(auto, using(crate::proofs::ReadLemmas::read_none, crate::proofs::ReadLemmas::read_more, crate::proofs::ReadLemmas::read_end))]
+fn read_question(message: &[u8], at: usize) -> Read<Question>
+    requires { at ≤ length message.now }
+    ensures ok { IfOk result
+        (λ read. message_question_at message.now at ≡ Some (read.0, read.1)) }
+    ensures within { IfOk result (λ read. read.1 ≤ length message.now) }
+    ensures err { IsErr result → message_question_at message.now at ≡ None }
+    ensures fault { IfErr result (λ fault. QuestionFault message.now at (fault_code fault)) }
+{
+    let (name, at) = read_name(message, at)?;
+    let question = Question {
+        name,
+        qtype: read_u16(message, at)?,
+        qclass: read_u16(message, at + 2)?,
+    };
+    Ok((question, at + 4))
+}
+
+#[tactic(auto, using(crate::proofs::ReadLemmas::read_none, crate::proofs::ReadLemmas::read_more, crate::proofs::ReadLemmas::read_end, crate::proofs::ReadLemmas::fault_more, crate::proofs::ReadLemmas::fault_here))]
 fn read_records(alloc: Global, message: &[u8], count: u16, at: usize) -> Read<Vec<WireRecord>>
     requires { at ≤ length message.now }
     ensures ok { IfOk result
@@ -94,6 +112,9 @@ fn read_records(alloc: Global, message: &[u8], count: u16, at: usize) -> Read<Ve
     ensures within { IfOk result (λ read. read.1 ≤ length message.now) }
     ensures err { IfErr result (λ fault. UnlessNoMemory fault
         (several (message_record_at message.now) count at ≡ None)) }
+    ensures fault { IfErr result (λ fault. UnlessNoMemory fault
+        (SeveralFault (message_record_at message.now) (RecordFault message.now) count at
+        (fault_code fault))) }
 {
     let mut place = at;
     let mut records = Vec::new(alloc);
@@ -112,6 +133,8 @@ fn read_record(alloc: Global, message: &[u8], at: usize) -> Read<WireRecord>
     ensures within { IfOk result (λ read. read.1 ≤ length message.now) }
     ensures err { IfErr result
         (λ fault. UnlessNoMemory fault (message_record_at message.now at ≡ None)) }
+    ensures fault { IfErr result
+        (λ fault. UnlessNoMemory fault (RecordFault message.now at (fault_code fault))) }
 {
     let (owner, at) = read_name(message, at)?;
     let rtype = RType(read_u16(message, at)?);

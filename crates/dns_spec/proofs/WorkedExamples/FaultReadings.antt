@@ -1,6 +1,6 @@
--- Functions that compute the faults of a text, with their places and numbers, together with the
--- proof, or give `None` if they can't decide.
-use Rattle.dns_spec.proofs.Common.{◌≡◌, ◌≢◌, ℕ, ◌+◌, ◌<◌, ◌⊎◌, inl, inr, Bool, true, false, ◌||◌, not, ◌==◌, List, [], ◌∷◌, ◌++◌, Option, Some, None, refl, sym, ◌∙◌, ap, subst, subst₂, codes, decimal, length, drop, nat_le, arith, lit<, MatchOption, MatchBool, list_all, is_none, digits, digits_value, and_parts, false≢true, leb-true, le-leb, eqb-true, eq-eqb, none-some, same_Some, decimal_is_IsNumeral, decimal_injective, Octets, DomainName, octets_equal, is_label, LabelThen, TextSpells, SpellsName, valid, ResourceRecord, Entry, lexical_fault, FileFault, bad_octet, bad_escape, unended_string, bad_parenthesis, unknown_directive, directive_words, bad_owner, no_owner, bad_ttl, other_class, bad_type, no_ttl, bad_data, too_many_records, too_long, no_memory, SaysIpv4, Word, Field, number, ipv4, ipv6, domain, string, strings, anything, SaysWord, may_be_quoted, word_fields_of, is_unknown_mark, Says, SpellsString, SaysString, DataFaultIs, FieldsFaultIs, TypedFaultIs, UnknownFaultIs, field_fault, EntryMeaning, faulty, gives, Nothing, EntryKind, no_words, directive, owned, unowned, kind_of, fields, Fields, directive_word, owner_word, OriginIs, NameIs, OwnerBefore, TtlSays, TtlIs, ttl_in_force, DataIs, is_other_class, are_too_many, RecordGives, DirectiveGives, KindGives, EntryGives, PlacedEntry, placed_entries, EntryFault, HasFault, NumberIs, PlaceIs, FaultyDirective, FaultyData, FaultyField, ForData, LookBack, is_last, EntriesGive, AllFaults, record_words, before_such, before_type, empty_place, place_after, owner_number}
+-- Functions that compute the faults of a text, with their places and numbers, and so what it means,
+-- together with the proof, or give `None` if they can't decide.
+use Rattle.dns_spec.proofs.Common.{Meaning, Means, nat_lt, ltb-true, ◌≡◌, ◌≢◌, ℕ, ◌+◌, ◌<◌, ◌⊎◌, inl, inr, Bool, true, false, ◌||◌, not, ◌==◌, List, [], ◌∷◌, ◌++◌, Option, Some, None, refl, sym, ◌∙◌, ap, subst, subst₂, codes, decimal, length, drop, nat_le, arith, lit<, MatchOption, MatchBool, list_all, is_none, digits, digits_value, and_parts, false≢true, leb-true, le-leb, eqb-true, eq-eqb, none-some, same_Some, decimal_is_IsNumeral, decimal_injective, Octets, DomainName, octets_equal, is_label, LabelThen, TextSpells, SpellsName, valid, ResourceRecord, Entry, lexical_fault, FileFault, bad_octet, bad_escape, unended_string, bad_parenthesis, unknown_directive, directive_words, bad_owner, no_owner, bad_ttl, other_class, bad_type, no_ttl, bad_data, too_many_records, too_long, no_memory, SaysIpv4, Word, Field, number, ipv4, ipv6, domain, string, strings, anything, SaysWord, may_be_quoted, word_fields_of, is_unknown_mark, Says, SpellsString, SaysString, DataFaultIs, FieldsFaultIs, TypedFaultIs, UnknownFaultIs, field_fault, EntryMeaning, faulty, gives, Nothing, EntryKind, no_words, directive, owned, unowned, kind_of, fields, Fields, directive_word, owner_word, OriginIs, NameIs, OwnerBefore, TtlSays, TtlIs, ttl_in_force, DataIs, is_other_class, are_too_many, RecordGives, DirectiveGives, KindGives, EntryGives, PlacedEntry, placed_entries, EntryFault, HasFault, NumberIs, PlaceIs, FaultyDirective, FaultyData, FaultyField, ForData, LookBack, is_last, EntriesGive, AllFaults, record_words, before_such, before_type, empty_place, place_after, owner_number}
 use Rattle.dns_spec.specs.AllFaults.{FaultyArgument, FaultyTyped, FaultyUnknown, is_hex}
 use Rattle.dns_spec.specs.Meaning.{is_ttl_word, is_class_word}
 use Rattle.dns_spec.specs.FileFaults.{unreadable}
@@ -10,7 +10,9 @@ use Rattle.dns_spec.proofs.NameTexts.OneName.{label_once, no_labels, string_once
 use Rattle.dns_spec.proofs.DataWords.OneData.{four_numbers, number_then_dot}
 use Rattle.dns_spec.proofs.DataWords.OneFault.{no_data_said}
 use Rattle.dns_spec.proofs.ZoneTexts.OneMeaning.{origin_once, type_once}
-use Rattle.dns_spec.proofs.WorkedExamples.Readings.{Found, and_then, matched, chosen, holds, fails, by_test, same, Told, Known, tested, some, unless, ttl_of, form_in, string_in, unknown_in, type_in, no_type_told, no_ttl_stated, origin_after, name_after, data_after, whole_record, directive_in, there}
+use Rattle.dns_spec.proofs.WorkedExamples.Readings.{Found, and_then, matched, chosen, holds, fails, by_test, same, Told, Known, tested, some, unless, ttl_of, form_in, string_in, unknown_in, type_in, no_type_told, no_ttl_stated, origin_after, name_after, data_after, whole_record, directive_in, there, Rows, found_is, value_of}
+use Rattle.dns_spec.specs.Laws.{meaning_by}
+use Rattle.dns_spec.proofs.ZoneTexts.FirstFault.{first_fault}
 use Rattle.dns_spec.proofs.WorkedExamples.Zones.{example}
 
 -- texts that spell no name relative to any origin, and no address
@@ -53,16 +55,19 @@ dots_no_name o n h = by_labels n (and_parts _ _ h.is_name).0 (h.spelled)
     by_labels n all (inr (inr (a, b, said))) = text_none n all said
 
 -- the last number of an address is too large
-pub no_address : (d : Octets) → SaysIpv4 (codes "192.0.2.300") d → ⊥
+pub no_address : (n : ℕ) → 255 < n → n < 1000 → (d : Octets)
+    → SaysIpv4 (codes "192.0.2." ++ decimal n) d → ⊥
 unfolding digits
-no_address d h =
-    let p = four_numbers (codes "192.0.2.300") d h in
-    let one = number_then_dot 192 p.first (codes "0.2.300") _ (lit< tt) p.first_small p.spelled in
-    let two = number_then_dot 0 p.second (codes "2.300") _ (lit< tt) p.second_small one.1 in
-    let three = number_then_dot 2 p.third (codes "300") _ (lit< tt) p.third_small two.1 in
+no_address n large few d h =
+    let p = four_numbers (codes "192.0.2." ++ decimal n) d h in
+    let one = number_then_dot 192 p.first (codes "0.2." ++ decimal n) _ (lit< tt) p.first_small
+    p.spelled in
+    let two = number_then_dot 0 p.second (codes "2." ++ decimal n) _ (lit< tt) p.second_small
+    one.1 in
+    let three = number_then_dot 2 p.third (decimal n) _ (lit< tt) p.third_small two.1 in
     let small = p.fourth_small in
-    let four = decimal_injective 300 p.fourth (lit< tt) (omega (arith, small)) three.1 in
-    omega (arith, four, small)
+    let four = decimal_injective n p.fourth (omega (arith, few)) (omega (arith, small)) three.1 in
+    omega (arith, four, small, large)
 
 -- the proof that a word does not spell its field
 abbrev NotSaid : Field → DomainName → Word → Type 0
@@ -93,8 +98,12 @@ unquoted_fails (number k) o w = elim (k == 2) as (λ b. (k == 2) ≡ b → Optio
       (number_not_said o w e)))
   | false ↦ λ is. None
 ] refl
-unquoted_fails ipv4 o w = and_then (same w.raw (codes "192.0.2.300"))
-    (λ e. Some (λ d h. no_address d (subst (λ t. SaysIpv4 t d) e h.said)))
+unquoted_fails ipv4 o w =
+    let n : ℕ = digits_value 10 (drop 8 w.raw) in
+    and_then (same w.raw (codes "192.0.2." ++ decimal n)) (λ e.
+    and_then (holds (nat_lt 255 n)) (λ large. and_then (holds (nat_lt n 1000)) (λ few.
+    Some (λ d h. no_address n (ltb-true 255 n large) (ltb-true n 1000 few) d
+    (subst (λ t. SaysIpv4 t d) e h.said)))))
 unquoted_fails ipv6 o w = None
 unquoted_fails domain o w = and_then (same w.raw (codes "b..c"))
     (λ e. Some (λ d h. subst NoName (sym e) dots_no_name o h.said.0 h.said.1))
@@ -502,3 +511,17 @@ entries_given o earlier (e ∷ es) = elim (entry_told o earlier e.entry) [
 abbrev pub faults_in : (text : Octets) → Found (λ (r : List EntryFault × List ResourceRecord).
     AllFaults example text r.0 r.1)
 faults_in text = entries_given example [] (placed_entries text)
+
+-- what a text means as that file: its first fault, or its records
+abbrev pub text_in : (text : Octets) → Found (Means example text)
+text_in text = and_then (faults_in text) (λ r. Some (
+  meaning_by text r.0.0 r.0.1,
+  first_fault example text r.0.0 r.0.1 r.1,
+))
+
+-- each text means what is next to it
+abbrev pub Mean : List (Octets × Meaning) → Type 0
+Mean = Rows (Means example)
+
+pub reads : (text : Octets) (m : Meaning) → value_of (text_in text) ≡ Some m → Means example text m
+reads text m e = found_is (text_in text) m e

@@ -1,8 +1,9 @@
 -- A small file and its records; and the text of a whole zone, with the faults of texts that differ
 -- from it in one line.
-use Rattle.dns_spec.proofs.Common.{ℕ, List, [], ◌∷◌, ◌++◌, refl, codes, digits, Octets, DomainName, wire, labels_from, cut, type_a, type_ns, type_soa, type_txt, type_aaaa, hex_octets, ipv6_groups, ResourceRecord, run_length, records, fault_at, Means, bad_ttl, bad_type, no_ttl}
+use Rattle.dns_spec.proofs.Common.{ℕ, List, [], ◌∷◌, ◌++◌, refl, codes, digits, Octets, DomainName, wire, labels_from, cut, type_a, type_ns, type_soa, type_txt, type_aaaa, hex_octets, ipv6_groups, ResourceRecord, run_length, read_entry, entries_from, records, fault_at, Means, bad_ttl, bad_type, no_ttl}
 use Rattle.dns_spec.proofs.WorkedExamples.Zones.{hex, example, under, net_192, soa_of, strings_data, small_records}
-use Rattle.dns_spec.proofs.WorkedExamples.Readings.{tokens_in, Mean, are_found, text_in, reads}
+use Rattle.dns_spec.proofs.WorkedExamples.Readings.{are_found}
+use Rattle.dns_spec.proofs.WorkedExamples.FaultReadings.{Mean, text_in, reads}
 use mathlib.Core.Bool.{xor}
 
 abbrev pub small_file : Octets
@@ -37,7 +38,7 @@ six_records =
     ∷ []
 
 pub small_file_means : Means example small_file (records six_records)
-unfolding tokens_in run_length xor digits cut labels_from ipv6_groups hex_octets
+unfolding run_length xor digits cut labels_from read_entry entries_from ipv6_groups hex_octets
 small_file_means = reads small_file (records six_records) refl
 
 -- the lines of the small zone
@@ -75,5 +76,5 @@ zone_rows : Mean (
     -- without the line that states a TTL
     ∷ (soa_and_server ++ fourth ++ fifth_and_sixth ++ seventh ++ last_three, fault_at no_ttl 1)
     ∷ [])
-unfolding tokens_in run_length xor digits cut labels_from
+unfolding run_length xor digits cut labels_from read_entry entries_from
 zone_rows = are_found _ text_in _ refl

@@ -1,9 +1,8 @@
 -- What whole texts mean: their records, or a fault and its line.
-use Rattle.dns_spec.proofs.Common.{Some, ◌≡◌, ℕ, inr, inl, false, List, [], ◌∷◌, ◌++◌, refl, subst, codes, arith, lit<, lit≤, digits, false≢true, decimal_injective, Octets, DomainName, labels_from, SaysIpv4, Word, Says, cut, type_txt, ResourceRecord, run_length, faulty, NameIs, DataIs, records, fault_at, Means, bad_data, bad_escape, bad_octet, bad_owner, bad_parenthesis, bad_ttl, bad_type, directive_words, no_owner, no_ttl, other_class, unended_string, unknown_directive}
-use Rattle.dns_spec.proofs.DataWords.TypeWords.{one_type}
-use Rattle.dns_spec.proofs.DataWords.OneData.{four_numbers, number_then_dot}
-use Rattle.dns_spec.proofs.WorkedExamples.Readings.{tokens_in, text_with, Mean, are_found, text_in, name_after, found_is}
-use Rattle.dns_spec.proofs.WorkedExamples.Zones.{example, under, strings_data}
+use Rattle.dns_spec.proofs.Common.{ℕ, List, [], ◌∷◌, ◌++◌, refl, codes, digits, Octets, labels_from, cut, type_txt, ResourceRecord, run_length, records, fault_at, bad_data, bad_escape, bad_octet, bad_owner, bad_parenthesis, bad_ttl, bad_type, directive_words, no_owner, no_ttl, other_class, unended_string, unknown_directive, read_entry, entries_from}
+use Rattle.dns_spec.proofs.WorkedExamples.Readings.{are_found}
+use Rattle.dns_spec.proofs.WorkedExamples.FaultReadings.{Mean, text_in}
+use Rattle.dns_spec.proofs.WorkedExamples.Zones.{under, strings_data}
 use mathlib.Core.Bool.{xor}
 
 -- a TXT record with these strings, and a TXT record with the string `a`
@@ -44,6 +43,8 @@ meaning_rows : Mean (
     ∷ (codes "($TTL 60)", records [])
     -- after a blank, `$TTL` is not a directive, but the type of a record without an owner
     ∷ (codes " $TTL 60", fault_at no_owner 1)
+    -- the last number of an address exceeds 255
+    ∷ (codes "www 60 A 192.0.2.256", fault_at bad_data 1)
     -- words that begin like the name of a class
     ∷ (codes "www 60 CLASS01 A 192.0.2.1", fault_at other_class 1)
     ∷ (codes "www 60 classy A 192.0.2.1", fault_at other_class 1)
@@ -82,57 +83,5 @@ meaning_rows : Mean (
       records (a_at (codes "w") 5 ++ a_at (codes "w") 7 ++ a_at (codes "v") 7),
     )
     ∷ [])
-unfolding tokens_in run_length xor digits cut labels_from
+unfolding run_length xor digits cut labels_from read_entry entries_from
 meaning_rows = are_found _ text_in _ refl
-
--- the last number of the address exceeds 255
-no_address : (d : Octets) → SaysIpv4 (codes "192.0.2.256") d → ⊥
-unfolding digits
-no_address d h =
-    let p = four_numbers (codes "192.0.2.256") d h in
-    let one = number_then_dot 192 p.first (codes "0.2.256") _ (lit< tt) p.first_small p.spelled in
-    let two = number_then_dot 0 p.second (codes "2.256") _ (lit< tt) p.second_small one.1 in
-    let three = number_then_dot 2 p.third (codes "256") _ (lit< tt) p.third_small two.1 in
-    let small = p.fourth_small in
-    let four = decimal_injective 256 p.fourth (lit< tt) (omega (arith, small)) three.1 in
-    omega (arith, four, small)
-
-abbrev bare : Octets → Word
-bare cs = record { raw = cs; is_quoted = false }
-
-no_data : (t : ℕ) (o : DomainName) (d : Octets) → 1 ≡ t
-    → Says t (bare (codes "192.0.2.256") ∷ []) o d → ⊥
-no_data t o d e =
-    subst (λ u. Says u (bare (codes "192.0.2.256") ∷ []) o d → ⊥) e
-    (λ h. no_address h.said.0 h.said.3.said)
-
-bad_address : Means example (codes "www 60 A 192.0.2.256") (fault_at bad_data 1)
-unfolding tokens_in run_length digits
-bad_address =
-    found_is (text_with (codes "www 60 A 192.0.2.256") (Some (
-      fault_at bad_data 1,
-      (
-        faulty bad_data,
-        inr (
-          λ n. n _ owner,
-          inr (
-            λ n. n 60 (refl, refl, lit≤ tt),
-            inr (
-              false≢true,
-              inr (
-                λ n. n 1 (refl, inl refl, refl),
-                inr (false≢true, inl (none, refl)),
-              ),
-            ),
-          ),
-        ),
-        refl,
-      ),
-    ))) _ refl
-  where
-    owner : NameIs example [] (bare (codes "www")) (under (codes "www"))
-    owner = found_is (name_after example [] (bare (codes "www"))) _ refl
-
-    none : (d : Octets)
-        → DataIs example [] (bare (codes "A") ∷ bare (codes "192.0.2.256") ∷ []) d → ⊥
-    none d h = no_data h.0 h.2.0 d (one_type (codes "A") 1 h.0 (inl refl) h.1.1) h.2.2

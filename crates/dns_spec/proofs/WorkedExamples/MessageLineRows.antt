@@ -1,5 +1,6 @@
 -- What is printed for inputs, octet by octet, computed from the definitions.
-use Rattle.dns_spec.proofs.Common.{◌≡◌, ℕ, ◌≤◌, true, false, [], ◌∷◌, ◌++◌, codes, decimal, refl, lit≤, inl, inr, digits, octet_text, Octets, labels_from, cut, hex_octets, data_text, DnsMessage, run, runs_before, name_at, fields_at, several, message_at, Option, None, Some, lines, ended_lines, line_message, line_answers, are_messages, section_line, message_text, PrintsMessage, PrintsInput}
+use Rattle.dns_spec.proofs.Common.{◌≡◌, ℕ, ◌≤◌, true, false, [], ◌∷◌, ◌++◌, codes, decimal, refl, lit<, lit≤, inl, inr, digits, octet_text, Octets, labels_from, cut, hex_octets, data_text, DnsMessage, run, runs_before, name_at, fields_at, several, message_at, Option, None, Some, lines, ended_lines, line_message, line_answers, are_messages, section_line, message_text, PrintsMessage, PrintsInput}
+use Rattle.dns_spec.specs.MessageFaults.{MessageFault, stopped}
 use Rattle.dns_spec.proofs.WorkedExamples.Zones.{hex, under, net_192}
 use Rattle.dns_spec.proofs.WorkedExamples.MessageRows.{address_digits, address_message, error_digits, error_message}
 
@@ -21,10 +22,10 @@ prints_message : (l : Option Octets) (b : Octets) (m : DnsMessage) → l ≡ Som
 prints_message l b m is_line e = rw is_line (inl (m, e, refl))
 
 prints_fault : (l : Option Octets) (b : Octets) (n : ℕ)
-    → l ≡ Some b → message_at b ≡ None → 1 ≤ n → n ≤ 6 → PrintsMessage l
+    → l ≡ Some b → message_at b ≡ None → MessageFault b n → 1 ≤ n → n ≤ 6 → PrintsMessage l
     (record { output = codes "fault " ++ decimal n ++ codes "\n"; passes = false })
-prints_fault l b n is_line e least most =
-    rw is_line (inr (e, (n, least, most, refl)))
+prints_fault l b n is_line e fault least most =
+    rw is_line (inr (e, (n, fault, least, most, refl)))
 
 printed_rows :
     -- a reply with an address, on the first of several lines
@@ -52,8 +53,9 @@ printed_rows = (
   prints_message (line_message address_digits) (hex address_digits) address_message refl refl,
   prints_message (line_message error_digits) (hex error_digits) error_message refl refl,
   refl,
-  prints_fault (line_message pointer_digits) (hex pointer_digits) 3 refl refl (lit≤ tt) (lit≤ tt),
-  prints_fault (line_message []) [] 1 refl refl (lit≤ tt) (lit≤ tt),
+  prints_fault (line_message pointer_digits) (hex pointer_digits) 3 refl refl
+      (stopped 29 3 refl (lit< tt)) (lit≤ tt) (lit≤ tt),
+  prints_fault (line_message []) [] 1 refl refl refl (lit≤ tt) (lit≤ tt),
   refl,
 )
 

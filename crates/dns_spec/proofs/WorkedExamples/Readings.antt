@@ -1,6 +1,6 @@
 -- Functions that compute what a text or a part of a text means, together with the proof, or give
 -- `None` if they can't decide.
-use Rattle.dns_spec.proofs.Common.{◌≡◌, ◌≢◌, ℕ, zero, suc, ◌^◌, ◌⊎◌, inl, inr, Bool, true, false, ◌&&◌, ◌||◌, not, ◌==◌, List, [], ◌∷◌, ◌++◌, Option, Some, None, refl, sym, ◌∙◌, ap, subst, codes, decimal, length, map, take, drop, nat_lt, nat_le, arith, MatchOption, MatchBool, bytes_high_first, list_all, slice_split, flat_map, option_map, is_none, digits_value, and_parts, and_from, false≢true, eqb-true, eqb-false, ltb-true, leb-true, le-leb, decimal_is_IsNumeral, none-some, same_Some, Octets, DomainName, wire, folded, is_name, octets_equal, SpellsOctet, TextSpells, SpellsName, escape_front, text_in_lower_case, type_by_mnemonic, numbered_type, NamesType, valid, lower_case, ResourceRecord, Entry, most_octets, token_front, lexical_fault, Token, TokensThen, cut_entries, with_end, whole_text, extent_by, FileFault, unknown_directive, directive_words, bad_owner, no_owner, bad_ttl, other_class, bad_type, no_ttl, bad_data, too_many_records, ipv4_text, ipv6_octets, Word, Field, number, ipv4, ipv6, domain, string, strings, anything, SaysString, SpellsString, SaysField, may_be_quoted, SaysFields, word_fields_of, SaysTyped, hex_octets, is_hex_word, SaysUnknown, is_unknown_mark, SaysAsSpelled, Says, EntryMeaning, faulty, gives, Nothing, EntryKind, no_words, directive, owned, unowned, kind_of, directive_word, owner_word, OriginIs, NameIs, OwnerBefore, most_ttl, TtlSays, ttl_in_force, TtlIs, is_zone_type, TypeIs, DataIs, IsRecord, Fields, fields, IsNoTtl, is_other_class, are_too_many, RecordGives, DirectiveSays, DirectiveGives, KindGives, EntryGives, Meaning, records, fault_at, after, line_after, EntriesMean, Means}
+use Rattle.dns_spec.proofs.Common.{◌≡◌, ◌≢◌, ℕ, zero, suc, ◌^◌, ◌⊎◌, inl, inr, Bool, true, false, ◌&&◌, ◌||◌, not, ◌==◌, List, [], ◌∷◌, ◌++◌, Option, Some, None, refl, sym, ◌∙◌, ap, subst, codes, decimal, length, map, take, drop, nat_lt, nat_le, arith, MatchOption, MatchBool, bytes_high_first, list_all, slice_split, flat_map, option_map, digits_value, and_parts, and_from, false≢true, eqb-true, eqb-false, ltb-true, leb-true, le-leb, decimal_is_IsNumeral, none-some, same_Some, Octets, DomainName, wire, folded, is_name, octets_equal, SpellsOctet, TextSpells, SpellsName, escape_front, text_in_lower_case, type_by_mnemonic, numbered_type, NamesType, valid, lower_case, ResourceRecord, Entry, FileFault, directive_words, ipv4_text, ipv6_octets, Word, Field, number, ipv4, ipv6, domain, string, strings, anything, SaysString, SpellsString, SaysField, may_be_quoted, SaysFields, word_fields_of, SaysTyped, hex_octets, is_hex_word, SaysUnknown, is_unknown_mark, SaysAsSpelled, Says, EntryMeaning, faulty, gives, Nothing, kind_of, directive_word, OriginIs, NameIs, most_ttl, TtlSays, ttl_in_force, TtlIs, is_zone_type, TypeIs, DataIs, IsRecord, Fields, IsNoTtl, DirectiveSays}
 use Rattle.dns_spec.proofs.DomainNames.NameLaws.{octets_equal-decides}
 use Rattle.dns_spec.proofs.NameTexts.Escapes.{escape_spells}
 use Rattle.dns_spec.proofs.WorkedExamples.Zones.{example}
@@ -58,25 +58,6 @@ same_or_not xs ys =
 
 abbrev pub same : (xs ys : Octets) → Option (xs ≡ ys)
 same xs ys = elim (same_or_not xs ys) [ inl e ↦ Some e | inr apart ↦ None ]
-
--- at most n tokens of a text, and the octets after them
-abbrev pub Spelled : Octets → List Token × Octets → Type 0
-Spelled text r = TokensThen text r.0 r.1
-
-unfoldable pub tokens_in : ℕ → (text : Octets) → (r : List Token × Octets) × Spelled text r
-tokens_in zero text = (([], text), refl)
-tokens_in (suc n) text = elim (there (token_front text)) [
-  | None ↦ (([], text), refl)
-  | Some r ↦
-      let more = tokens_in n r.0.1 in
-      ((r.0.0 ∷ more.0.0, more.0.1), (r.0.1, r.1, more.1))
-]
-
--- The entries of a text of at most 99 tokens that is within its limit.
-abbrev pub entries_of : Octets → List Entry
-entries_of text =
-    let r = (tokens_in 99 text).0 in
-    with_end whole_text r.1 (cut_entries false r.0)
 
 -- the octet that a text begins with, as itself or escaped, and the text after it
 abbrev Begins : Octets → ℕ × Octets → Type 0
@@ -218,8 +199,7 @@ data_in t ws o = and_then (spelled_in t o ws) (λ d. and_then (holds (valid t d.
       record { as_spelled = d.0; said = d.1; is_valid = valid; lower = refl },
     )))
 
--- After earlier entries: the origin in force, the name that a word spells, the inherited owner, and
--- the TTL in force.
+-- After earlier entries: the origin in force, the name that a word spells, and the TTL in force.
 abbrev pub origin_after : (o : DomainName) (earlier : List Entry) → Found (OriginIs o earlier)
 origin_after o [] = Some (o, refl)
 origin_after o (e ∷ earlier) =
@@ -232,11 +212,6 @@ abbrev pub name_after : (o : DomainName) (earlier : List Entry) (w : Word)
 name_after o earlier w = and_then (holds (not w.is_quoted)) (λ bare.
     and_then (origin_after o earlier) (λ m. and_then (name_in m.0 w.raw)
     (λ n. Some (n.0, (bare, (m.0, m.1, n.1))))))
-
-abbrev pub owner_before : (o : DomainName) (earlier : List Entry) → Found (OwnerBefore o earlier)
-owner_before o [] = None
-owner_before o (e ∷ earlier) =
-    matched (owner_word (kind_of e)) (owner_before o earlier) (λ w. name_after o earlier w)
 
 abbrev ttl_after : (earlier : List Entry) (stated : Option Word) → Found (TtlIs earlier stated)
 ttl_after earlier stated = matched (ttl_in_force earlier stated) None
@@ -322,22 +297,6 @@ whole_record o earlier Owner f n d =
     record { owner = (n.0, n.1, refl); ttl = k.1; rtype = t.1; rdata = d.1 } in
     Some (gives (r ∷ []), (r, is, refl))))
 
--- What a record entry means: its first fault, or its record. Faults of its data are not decided.
-abbrev record_in : (o : DomainName) (earlier : List Entry) (fault : FileFault) (Owner : DomainName
-    → Type 0) (f : Fields) → Known Owner → Found (RecordGives o earlier fault Owner f)
-record_in o earlier fault Owner f None = None
-record_in o earlier fault Owner f (Some (inr none)) = Some (faulty fault, inl (none, refl))
-record_in o earlier fault Owner f (Some (inl n)) =
-    unless fault (Some (inr (some n)))
-    (unless bad_ttl (no_ttl_stated f.ttl)
-    (unless other_class (tested (is_other_class f.class))
-    (unless bad_type (no_type_told f.others)
-    (unless no_ttl (tested (is_none (ttl_in_force earlier f.ttl)))
-    (and_then (data_after o earlier f.others)
-    (λ d. unless bad_data (Some (inr (some d)))
-    (unless too_many_records (tested (are_too_many earlier))
-    (whole_record o earlier Owner f n d))))))))
-
 -- what a directive means
 abbrev pub directive_in : {A : Type 0} (P : A → Word → Type 0)
     → ((w : Word) → Known (λ v. P v w)) → (ws : List Word) → Found (DirectiveSays P ws)
@@ -350,80 +309,6 @@ directive_in P one (w ∷ []) = elim (one w) [
     | inr none ↦ Some (faulty directive_words, inl (none, refl))
   ]
 ]
-
--- the name of a word, or the proof that there is none since the word is quoted; and the inherited
--- owner
-abbrev name_told : (o : DomainName) (earlier : List Entry) (w : Word) → Known (NameIs o earlier w)
-name_told o earlier w = elim (by_test w.is_quoted (λ e. e) (λ e. e)) [
-  | inl quoted ↦ Some (inr (λ n h. false≢true (sym (ap not quoted) ∙ h.0)))
-  | inr bare ↦ and_then (name_after o earlier w) (λ n. Some (inl n))
-]
-
-abbrev owner_told : (o : DomainName) (earlier : List Entry) → Known (OwnerBefore o earlier)
-owner_told o [] = Some (inr (λ n h. h))
-owner_told o (e ∷ earlier) = and_then (owner_before o (e ∷ earlier)) (λ n. Some (inl n))
-
-abbrev directive_by : (o : DomainName) (earlier : List Entry) (name : Octets) (ws : List Word)
-    → Found (DirectiveGives o earlier name ws)
-directive_by o earlier name ws =
-    chosen (octets_equal name (codes "$origin"))
-    (directive_in (λ n w. NameIs o earlier w n) (name_told o earlier) ws)
-    (chosen (octets_equal name (codes "$ttl"))
-    (directive_in (λ n w. TtlSays w n) (λ w. Some (ttl_of w)) ws)
-    (Some (faulty unknown_directive, refl)))
-
--- what an entry means
-abbrev kind_in : (o : DomainName) (earlier : List Entry) (k : EntryKind)
-    → Found (KindGives o earlier k)
-kind_in o earlier no_words = Some (gives [], refl)
-kind_in o earlier (directive name ws) = directive_by o earlier name ws
-kind_in o earlier (owned w ws) =
-    record_in o earlier bad_owner (NameIs o earlier w) (fields ws) (name_told o earlier w)
-kind_in o earlier (unowned ws) =
-    record_in o earlier no_owner (OwnerBefore o earlier) (fields ws) (owner_told o earlier)
-
-abbrev entry_gives : (o : DomainName) (earlier : List Entry) (e : Entry)
-    → Found (EntryGives o earlier e)
-entry_gives o earlier e =
-    matched (lexical_fault e) (kind_in o earlier (kind_of e)) (λ f. Some (faulty f, refl))
-
-abbrev entry_then : (o : DomainName) (earlier : List Entry) (e : Entry) (es : List Entry)
-    → Found (EntriesMean o (e ∷ earlier) es) → (given : EntryMeaning) → EntryGives o earlier e given
-    → Found (EntriesMean o earlier (e ∷ es))
-entry_then o earlier e es more (faulty f) h =
-    Some (fault_at f (line_after earlier), (faulty f, h, refl))
-entry_then o earlier e es more (gives rs) h =
-    and_then more (λ m. Some (after rs m.0, (gives rs, h, (m.0, m.1, refl))))
-
-abbrev entries_in : (o : DomainName) (earlier es : List Entry) → Found (EntriesMean o earlier es)
-entries_in o earlier [] = Some (records [], refl)
-entries_in o earlier (e ∷ es) = and_then (entry_gives o earlier e)
-    (λ g. entry_then o earlier e es (entries_in o (e ∷ earlier) es) g.0 g.1)
-
--- what a text means, if what its entries mean was found
-abbrev pub text_with : (text : Octets) → Found (EntriesMean example [] (entries_of text))
-    → Found (Means example text)
-text_with text entries =
-    let r = tokens_in 99 text in
-    and_then (same (take most_octets text) text) (λ all.
-    and_then (fails (nat_lt most_octets (length text))) (λ within.
-    and_then (missing (token_front r.0.1)) (λ at_end. and_then entries (λ m. Some (
-      m.0,
-      (
-        entries_of text,
-        record {
-          tokens = r.0.0;
-          rest = r.0.1;
-          spelled = subst (λ t. Spelled t r.0) (sym all) r.1;
-          at_end = at_end;
-          entries = ap (λ b. with_end (extent_by b) r.0.1 (cut_entries false r.0.0)) (sym within);
-        },
-        m.1,
-      ),
-    )))))
-
-abbrev pub text_in : (text : Octets) → Found (Means example text)
-text_in text = text_with text (entries_in example [] (entries_of text))
 
 -- the value found is v
 pub found_is : {A : Type 0} {P : A → Type 0} (o : Found P) (v : A)
@@ -452,13 +337,6 @@ are_found {A} {B} P read (r ∷ rows) e =
     head : value_of (read r.0) ∷ map (λ (s : A × B). value_of (read s.0)) rows
         ≡ Some r.1 ∷ map (λ (s : A × B). Some s.1) rows → value_of (read r.0) ≡ Some r.1
     head e = cc
-
--- each text means what is next to it
-abbrev pub Mean : List (Octets × Meaning) → Type 0
-Mean = Rows (Means example)
-
-pub reads : (text : Octets) (m : Meaning) → value_of (text_in text) ≡ Some m → Means example text m
-reads text m e = found_is (text_in text) m e
 
 -- the words spell this data of the type, relative to `example.`
 abbrev pub SaysOf : ℕ × List Word → Octets → Type 0

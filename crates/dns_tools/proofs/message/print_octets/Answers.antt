@@ -24,6 +24,7 @@ returns-in_err-write_fault-in_default-clause-printed g c =
     let fault = c.in-Err.fault in
     let stopped = c.from_residual-in_err-write_fault-in_default in
     fault_reported c.args.octets.now fault stopped.result _ _ c.in-Err.ensures.err
+    c.in-Err.ensures.fault
     (report_begun (IsFaultReport fault) _ stopped.result _ _ stopped.ensures.1
     (c.in_default.not-NoMemory, refl) c.in_err-write_fault-in_default.ensures.err)
 
@@ -31,4 +32,5 @@ pub returns-in_ok-write_fault-in_default-clause-printed :
     goal.returns-in_ok-write_fault-in_default-clause-printed
 returns-in_ok-write_fault-in_default-clause-printed g c =
     fault_reported c.args.octets.now c.in-Err.fault (Ok false) _ _ c.in-Err.ensures.err
+    c.in-Err.ensures.fault
     (_, (c.in_default.not-NoMemory, refl), (refl, c.in_ok-write_fault-in_default.ensures.ok))

@@ -1,7 +1,7 @@
 use Rattle.dns_wire.proofs.Common.{ℕ, List, arith, ◌≡◌, nil_from_length, Octets, fields_in, AreFieldsRead, data_read}
 use Rattle.dns_spec.specs.Data as Data
 use Rattle.dns_rdata.specs.declared.table.Field.{Field}
-use Rattle.dns_wire.proofs.FieldLemmas.{field_more, fields_end}
+use Rattle.dns_wire.proofs.FieldLemmas.{field_more, fields_end, field_fault_of_all, end_fault_of_all}
 use Rattle.dns_wire.proofs.ValidData.{data_valid}
 use Rattle.dns_wire.proofs.data.read_data.Goals as goal
 
@@ -24,3 +24,12 @@ returns-clause-valid c =
     let short = c.requires.short in
     data_valid c.args.message.now c.args.rtype.0 c.args.rclass c.args.at c.args.end
     c.fields.data.items (returns-clause-ok c) (omega (arith, short))
+
+pub returns-in_err-place-clause-fault : goal.returns-in_err-place-clause-fault
+returns-in_err-place-clause-fault c =
+    let reading = left c.in-Some.ensures.cases.0 c.fields.invariant in
+    grind (arith, field_fault_of_all reading)
+
+pub returns-then-place-end-clause-fault : goal.returns-then-place-end-clause-fault
+returns-then-place-end-clause-fault c _ =
+    end_fault_of_all (left (nil_from_length _ c.in_default.ensures.cases) c.fields.invariant)

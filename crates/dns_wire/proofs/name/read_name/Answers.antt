@@ -1,5 +1,5 @@
-use Rattle.dns_wire.proofs.Common.{refl, arith, true≢false, sym, length, ◌≤◌, ◌∷◌, [], ◌++◌, slice_get_within, wire}
-use Rattle.dns_wire.proofs.Runs.{reading_ends, reading_stops, reading_label, label_too_long, reading_jumps, end_fits}
+use Rattle.dns_wire.proofs.Common.{false, ◌≡◌, is_name, IsName-is_name, refl, arith, true≢false, sym, length, ◌≤◌, ◌∷◌, [], ◌++◌, slice_get_within, wire}
+use Rattle.dns_wire.proofs.Runs.{reading_ends, reading_stops, reading_label, label_too_long, reading_jumps, end_fits, reading_stopped, reading_too_long}
 use Rattle.dns_wire.proofs.name.read_name.Goals as goal
 
 pub returns-in_err-step_at-clause-none : goal.returns-in_err-step_at-clause-none
@@ -40,3 +40,15 @@ steps-preserved c =
           (reading_jumps c.steps.invariant.reading step c.steps.invariant.begun);
       begun = omega (arith, step.before_run, c.steps.invariant.begun);
     }
+
+pub returns-in_err-step_at-clause-fault : goal.returns-in_err-step_at-clause-fault
+returns-in_err-step_at-clause-fault c = grind (arith, reading_stopped c.steps.invariant.reading)
+
+pub returns-then-not-push-clause-fault : goal.returns-then-not-push-clause-fault
+returns-then-not-push-clause-fault c =
+    let step = rw c.in-Label.is at c.in_ok-step_at.ensures.step in
+    let long : (length (wire (c.steps.name ++ c.in-Label.label ∷ [])) ≤ 255) → ⊥ =
+    λ fits. true≢false (sym (c.if-not-push.ensures.fits.1 fits)) in
+    let not_name : is_name (c.steps.name ++ c.in-Label.label ∷ []) ≡ false =
+    grind (arith, IsName-is_name, long) in
+    reading_too_long c.in-Label.label c.steps.invariant.reading step not_name

@@ -1,0 +1,68 @@
+-- The faults of a text as the code lists them, and the reading of one entry.
+use Rattle.std.specs.Prelude.{ℕ, ◌-◌, ◌≤◌, List, ◌∷◌, length, map, drop, false}
+use Rattle.dns_spec.specs.Names.{Octets, DomainName}
+use Rattle.dns_spec.specs.ZoneText.{Entry}
+use Rattle.dns_spec.specs.Records.{ResourceRecord}
+use Rattle.dns_spec.specs.FileFaults.{FileFault, no_owner, too_many_records}
+use Rattle.dns_spec.specs.Meaning.{Nothing, OriginIs}
+use Rattle.dns_spec.specs.EntryPlaces.{PlacedEntry, placed_entry, read_entry, empty_place, entries_from, entries_to_end}
+use Rattle.dns_spec.specs.EntryPlaces as places
+use Rattle.dns_spec.specs.AllFaults.{first_place, HasFault, GivesOwn, EntriesGive, most_listed}
+use Rattle.dns_spec.specs.AllFaults as all
+use Rattle.dns_master.specs.Codes.{fault_of}
+use Rattle.dns_master.specs.EarlierForm.{LooksBack}
+use Rattle.dns_master.specs.JudgeForm.{at_most_one}
+use Rattle.dns_master.specs.ScanForm.{shown_place, ScansEntry}
+use Rattle.dns_master.specs.declared.earlier.Earlier.{Earlier}
+use Rattle.dns_master.specs.declared.scanned.EntryFault.{EntryFault}
+use Rattle.dns_master.specs.declared.scanned.ScannedEntry.{ScannedEntry}
+use Rattle.dns_master.specs.declared.scanned.Judged.{Judged}
+use Rattle.dns_master.specs.declared.scanned.Judged.TheVariants.{Gives, Faulty}
+
+-- the entry that begins a text, which ends with the `total` examined octets; `past` follows them
+abbrev pub entry_at : ℕ → Octets → Octets → PlacedEntry
+entry_at total past text =
+    placed_entry total past text
+    (read_entry (length text) false (total - length text) text)
+
+-- an entry was read
+pub record EntryScanned (s : ScannedEntry) : Type 0 where
+  pub scanned : ScansEntry (length s.octets.now - length s.rest.now) s.rest.now
+      s.words.now s.places.now s.read
+  pub short : length s.rest.now ≤ length s.octets.now
+  pub few : length s.octets.now ≤ 16777216
+  pub words_few : length s.words.now ≤ 16777217
+
+abbrev pub placed : ScannedEntry → PlacedEntry
+placed s = entry_at (length s.octets.now) s.past.now s.rest.now
+
+-- the place of a fault that is not lexical, if `i` words precede the one at fault
+abbrev pub spot_by : FileFault → ℕ → ScannedEntry → places.Place
+spot_by no_owner i s = empty_place (length s.octets.now - length s.rest.now)
+spot_by too_many_records i s = empty_place (length s.octets.now - length s.rest.now)
+spot_by fault i s = first_place (drop i (map shown_place s.places.now)) (empty_place s.read.ends)
+
+-- a fault, as the definitions have it
+abbrev pub shown_fault : EntryFault → all.EntryFault
+shown_fault f =
+    record {
+      fault = fault_of f.code;
+      number = f.number;
+      place = shown_place f.place;
+      entry = f.entry;
+    }
+
+-- an entry has no fault, and gives these records
+pub record EntryOwn (o : DomainName) (earlier : List Entry) (e : Entry)
+    (rs : List ResourceRecord) : Type 0 where
+  pub given : GivesOwn o earlier e rs
+  pub origin : Nothing (OriginIs o (e ∷ earlier)) → ⊥
+
+-- what an entry gives, or its fault, whatever entries are known
+abbrev pub Judges : Earlier → PlacedEntry → Judged → Type 0
+Judges k e (Gives one) =
+    (o : DomainName) (earlier : List Entry) → LooksBack o earlier k
+    → EntryOwn o earlier e.entry (at_most_one one)
+Judges k e (Faulty f) =
+    (o : DomainName) (earlier : List Entry) → LooksBack o earlier k
+    → HasFault o earlier e (shown_fault f)

@@ -1,0 +1,155 @@
+//! What an entry of a file gives, or its fault with its place (RFC 1035 section 5).
+ghost use Rattle.std.specs.Prelude.{◌≡◌, ◌-◌, ◌≤◌, length, take, drop, map, nat_lt, None, IfOk};
+ghost use Rattle.std.specs.List.{list_any};
+ghost use Rattle.std.specs.Option.{option_map};
+ghost use Rattle.dns_spec.specs.ZoneText.{extent_by, is_blank};
+ghost use Rattle.dns_spec.specs.EntryPlaces.{empty_place, end_octets, ending_fault, fault_place};
+ghost use Rattle.dns_spec.specs.AllFaults.{first_place};
+ghost use Rattle.dns_master.specs.Codes.{fault_of};
+ghost use Rattle.dns_master.specs.JudgeForm.{IsKnown};
+ghost use Rattle.dns_master.specs.ScanForm.{shown_ending, shown_place};
+ghost use Rattle.dns_master.specs.ListingForm.{EntryScanned, Judges, placed, spot_by};
+ghost use Rattle.dns_master.specs.WordsLeft.{words_left};
+
+use crate::earlier::Earlier;
+use crate::entry_words::{EntryWords, LaterWords};
+use crate::fault::ReadCode;
+use crate::judge::Blame;
+use crate::places::{EntryScan, Place, ending_fault, stop_place};
+use crate::record::Record;
+use crate::run::is_blank;
+use dns_rdata::{DataRoom, Word};
+use std::alloc::AllocError;
+
+/// A fault of a file: its code; the number of an owner's fault or of data's; its place; and the
+/// number of octets before its entry.
+#[derive(Clone, Copy, Debug, PartialEq, Eq)]
+pub struct EntryFault {
+    /// The code.
+    pub code: ReadCode,
+    /// The number of the fault of an owner's name, or of the data.
+    pub number: Option<u8>,
+    /// The place.
+    pub place: Place,
+    /// The number of octets before the entry.
+    pub entry: usize,
+}
+
+/// What an entry gives: a record or none, or a fault.
+#[derive(Drop)]
+pub(crate) enum Judged {
+    Gives(Option<Record>),
+    Faulty(EntryFault),
+}
+
+/// An entry that was read: the octets that are examined, and those past them; the rest of the
+/// octets, which the entry begins; its words and their places; and how reading it ended.
+#[derive(Clone, Copy)]
+pub(crate) struct ScannedEntry<'a, 'w> {
+    pub(crate) octets: &'w [u8],
+    pub(crate) past: &'w [u8],
+    pub(crate) rest: &'w [u8],
+    pub(crate) words: &'a [Word<'w>],
+    pub(crate) places: &'a [Place],
+    pub(crate) read: EntryScan<'w>,
+}
+
+impl ScannedEntry<'_, '_> {
+    /// The record of the entry, or its fault.
+    pub(crate) fn judge(&self, earlier: &Earlier, room: &mut DataRoom) -> Result<Judged, AllocError>
+        requires scanned { EntryScanned self.now }
+        requires known { IsKnown earlier.now }
+        ensures { IfOk result (Judges earlier.now (placed self.now)) }
+    {
+        if let Some(code) = self.lexical() {
+            return Ok(Judged::Faulty(self.stopped(code)));
+        }
+        match earlier.judge(self.is_blank_led(), all_kept(self.words), room) {
+            Ok(one) => Ok(Judged::Gives(one)),
+            Err(blame) if blame.code == ReadCode::NoMemory => Err(AllocError),
+            Err(blame) => Ok(Judged::Faulty(self.blamed(blame))),
+        }
+    }
+
+    fn is_blank_led(&self) -> bool
+        ensures { result ≡ list_any is_blank (take 1 self.now.rest.now) }
+    {
+        self.rest.first().is_some_and(|first| is_blank(*first))
+    }
+
+    fn lexical(&self) -> Option<ReadCode>
+        ensures { option_map fault_of result ≡ ending_fault
+            (extent_by (nat_lt 0 (length self.now.past.now))) (shown_ending self.now.read.ending) }
+    {
+        ending_fault(self.read.ending, !self.past.is_empty())
+    }
+
+    // The lexical fault of the entry.
+    fn stopped(&self, code: ReadCode) -> EntryFault
+        requires { length self.now.octets.now ≤ 16777216 }
+        ensures code { result.code ≡ code }
+        ensures number { result.number ≡ None }
+        ensures place { shown_place result.place ≡ fault_place (length self.now.octets.now)
+            self.now.past.now (fault_of code) (end_octets (shown_ending self.now.read.ending)) }
+        ensures entry { result.entry ≡ length self.now.octets.now - length self.now.rest.now }
+    {
+        EntryFault {
+            code,
+            number: None,
+            place: stop_place(self.octets, self.past, code, self.read.ending),
+            entry: self.before(),
+        }
+    }
+
+    fn before(&self) -> usize
+        ensures { result ≡ length self.now.octets.now - length self.now.rest.now }
+    {
+        self.octets.len().saturating_sub(self.rest.len())
+    }
+
+    fn blamed(&self, blame: Blame) -> EntryFault
+        ensures code { result.code ≡ blame.code }
+        ensures number { result.number ≡ blame.number }
+        ensures place { shown_place result.place
+            ≡ spot_by (fault_of blame.code) blame.words self.now }
+        ensures entry { result.entry ≡ length self.now.octets.now - length self.now.rest.now }
+    {
+        let place = match blame.code {
+            ReadCode::NoOwner | ReadCode::TooManyRecords => Place::empty(self.before()),
+            _ => self.place_after(blame.words),
+        };
+        EntryFault {
+            code: blame.code,
+            number: blame.number,
+            place,
+            entry: self.before(),
+        }
+    }
+
+    // The place of the word after `number` words; the end of the entry if it has no such word.
+    #[tactic(auto, using(crate::proofs::ListingSteps::past_spot, crate::proofs::ListingSteps::spot_at))]
+    fn place_after(&self, number: usize) -> Place
+        ensures { shown_place result ≡ first_place
+            (drop number (map shown_place self.now.places.now)) (empty_place self.now.read.ends) }
+    {
+        if number >= self.places.len() {
+            return Place::empty(self.read.ends);
+        }
+        let (_, later) = self.places.split_at(number);
+        match later.split_first() {
+            Some((place, _)) => *place,
+            None => Place::empty(self.read.ends),
+        }
+    }
+}
+
+// All words of an entry, as the reader takes them.
+fn all_kept<'k, 'w>(words: &'k [Word<'w>]) -> EntryWords<'k, 'w>
+    ensures { words_left result ≡ words.now }
+{
+    let later = LaterWords {
+        text: b"",
+        count: 0,
+    };
+    EntryWords { kept: words, later }
+}
