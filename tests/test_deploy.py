@@ -117,8 +117,12 @@ def test_dry_runs_and_warnings(deploys):
 
 
 def limited():
-    signal.signal(signal.SIGXFSZ, signal.SIG_IGN)
     resource.setrlimit(resource.RLIMIT_FSIZE, (100 * 1024, 100 * 1024))
+
+
+def limited_without_a_signal():
+    signal.signal(signal.SIGXFSZ, signal.SIG_IGN)
+    limited()
 
 
 def test_what_cannot_be_written_as_a_whole_is_not_deployed(deploys):
@@ -128,7 +132,7 @@ def test_what_cannot_be_written_as_a_whole_is_not_deployed(deploys):
     write(2)
     deploys(2, 6, 1, "served.zone can't be copied", preexec_fn=limited)
     write(7, count=4000)
-    deploys(2, 6, 1, "served.zone.deploy/new': File too large", preexec_fn=limited)
+    deploys(2, 6, 1, "served.zone.deploy/new': File too large", preexec_fn=limited_without_a_signal)
     cut = hashlib.sha256(Path("new").read_bytes()[:-30]).hexdigest()
     deploys(2, 6, 1, "new was cut off or changed", options=[f"--sha256={cut}"])
     Path("served.zone").unlink()
