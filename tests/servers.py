@@ -1,6 +1,7 @@
 """Servers, sockets and queries, for tests and benches."""
 import contextlib
 import os
+import resource
 import socket
 import struct
 import subprocess
@@ -91,6 +92,11 @@ def seconds_of(process):
     """The processor time of a process and of its children that have ended, in seconds."""
     fields = Path(f"/proc/{process}/stat").read_text().rsplit(")", 1)[1].split()
     return sum(map(int, fields[11:15])) / os.sysconf("SC_CLK_TCK")
+
+
+def spent():
+    """The processor time of all children that have ended, in seconds."""
+    return sum(resource.getrusage(resource.RUSAGE_CHILDREN)[:2])
 
 
 class Workers:

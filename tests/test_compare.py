@@ -7,7 +7,6 @@ import json
 import os
 import pty
 import re
-import resource
 import signal
 import socket
 import subprocess
@@ -600,12 +599,11 @@ def test_zoneserve(programs, tmp_path):
     how = programs / "zoneserve", zone, "example", (host, int(port))
     with Serving(how[0], "udp", *how[1:]), Serving(how[0], "tcp", *how[1:]):
         for options, least in (((), 2000), (("--tcp",), 200), (("--exact",), 200)):
-            before = resource.getrusage(resource.RUSAGE_CHILDREN)
+            before = servers.spent()
             done = servers.run(COMPARE, "--rate", "0", "--questions", str(least), *options, "example", zone,
                                f"{host}:{port}")
-            after = resource.getrusage(resource.RUSAGE_CHILDREN)
             assert (done.returncode, done.stderr) == (0, "") and f"{least} questions of " in done.stdout
-            assert after.ru_utime + after.ru_stime - before.ru_utime - before.ru_stime < 10
+            assert servers.spent() - before < 10
 
 
 # ---- other servers
