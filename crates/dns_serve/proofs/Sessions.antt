@@ -94,17 +94,6 @@ done_more reply a b c x y z n d h = record {
       (sym (replies_of reply d.messages h.message)) (Appends-trans x y z _ _ d.written h.written);
 }
 
--- nothing more was read
-pub nothing_more : (reply : Octets → Option Octets) (a b c x y : Option Octets) (n : ℕ)
-    → Done reply (session a b x y) n → GivesNothing b c → Done reply (session a c x y) n
-nothing_more reply a b c x y n d h = record {
-  messages = d.messages;
-  short = d.short;
-  count = d.count;
-  written = d.written;
-  read = subst (Consumes a c) (append-nil _) (Consumes-trans a b c _ [] d.read h.consumed);
-}
-
 -- the frames at the front of octets, if no frame follows or no more are asked for
 frames_then : (k : ℕ) (ms : List Octets) (rest : Octets) → All (λ m. length m < 2 ^ 16) ms
     → first_frame rest ≡ None → frames (length ms + k) (flat_map frame ms ++ rest) ≡ ms
@@ -177,47 +166,3 @@ unwritten reply most n a b c x y z d h b' = record {
       (sym (frames_of d.messages b'.message)) (Consumes-trans a b c _ _ d.read b'.read);
   written = Appends-trans x y z _ _ d.written b'.written;
 }
-
--- all messages were served, and then the sink was flushed
-pub served_flushed : (reply : Octets → Option Octets) (most n : ℕ) (a b x y z : Option Octets)
-    → HasServed reply most (session a b x y) n → Appends y z []
-    → HasServed reply most (session a b x z) n
-served_flushed reply most n a b x y z h kept = record {
-  messages = h.messages;
-  are_frames = h.are_frames;
-  count = h.count;
-  read = h.read;
-  over = h.over;
-  written = subst (Appends x z) (append-nil _) (Appends-trans x y z _ [] h.written kept);
-}
-
-last_of : (ms : List Octets) → 1 ≤ length ms
-    → (earlier : List Octets) × (m : Octets) × (ms ≡ earlier ++ m ∷ [])
-last_of [] h = absurd (omega (arith, h))
-last_of (m ∷ []) h = ([], m, refl)
-last_of (a ∷ b ∷ ms) h =
-    let (earlier, m, e) = last_of (b ∷ ms) (omega arith) in (a ∷ earlier, m, ap (λ xs. a ∷ xs) e)
-
--- all replies were written, but not passed on
-pub unflushed : (reply : Octets → Option Octets) (most n : ℕ) (a b x y z : Option Octets)
-    → Done reply (session a b x y) n → 1 ≤ n → n ≤ most → AppendsBeginning y z []
-    → WasRefused reply most (session a b x z)
-unflushed reply most n a b x y z d some within (k, fits, w) =
-    let (earlier, m, e) = last_of d.messages (omega (arith, d.count, some)) in
-    let frame_of = reply_frame (reply m) in
-    let count : length earlier + 1 ≡ length d.messages =
-    sym (ap length e ∙ length-append earlier (m ∷ [])) in
-    record {
-      earlier = earlier;
-      message = m;
-      taken = length frame_of;
-      are_frames = subst (AreFrames a (length earlier + 1)) e (frames_of_known a b _ d.messages []
-          d.short (with_nothing a b _ d.read) (inl (sym count)));
-      within = omega (arith, count, d.count, within);
-      read = subst (λ ms. Consumes a b (flat_map frame ms)) e d.read;
-      written = subst (Appends x z)
-          (ap (λ p. replies reply d.messages ++ p) (take-nil k) ∙ append-nil _
-          ∙ ap (replies reply) e ∙ replies_of reply earlier m
-          ∙ ap (λ o. replies reply earlier ++ o) (sym (take_all (length frame_of) frame_of (omega arith))))
-          (Appends-trans x y z _ _ d.written w);
-    }

@@ -13,5 +13,5 @@ pub use datagrams::{Datagrams, Failed};
 pub use fault::{StreamFault, TurnFault};
 pub use frame::Frame;
 pub use session::Session;
-pub use stream::{Ends, StreamRoom, serve_stream, serve_stream_in};
+pub use stream::serve_stream;
 pub use turn::{udp_turn, udp_turn_in};

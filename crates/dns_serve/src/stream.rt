@@ -1,6 +1,6 @@
 //! A session over a stream: messages and their replies, each after its length in two octets
 //! (RFC 1035 4.2.2).
-ghost use Rattle.std.specs.Prelude.{◌≡◌, ◌+◌, ◌-◌, ◌^◌, ◌<◌, ◌≤◌, ℕ, List, [], length, IfOk, OnOk, IfSome, IsNone};
+ghost use Rattle.std.specs.Prelude.{◌≡◌, ◌+◌, ◌-◌, ◌^◌, ◌<◌, ◌≤◌, length};
 ghost use Rattle.dns_spec.specs.Stream.{reply_frame};
 ghost use Rattle.dns_name.specs.Counted.{Writes};
 ghost use Rattle.dns_serve.specs.Reads.{FrameRead};
@@ -29,8 +29,7 @@ const MOST_FRAME: usize = 65_537;
 /// Only the first 512 octets of a message are kept; its other octets are discarded. No memory is
 /// allocated. The sink is flushed after each message.
 ///
-/// Each call first clears its buffers, about 197,000 octets on the stack. Callers that serve many
-/// streams, or have little stack, should keep a `StreamRoom` and call `serve_stream_in`.
+/// Each call first clears its buffers, about 197,000 octets on the stack.
 pub fn serve_stream<R: Read, W: Write>(
     zone: &Zone,
     source: &mut Tally<R>,
@@ -44,121 +43,17 @@ pub fn serve_stream<R: Read, W: Write>(
     ensures session { SessionOf (reply_over_tcp zone.now) most
         (session R.remaining W.contents source.old source.new sink.old sink.new) result }
 {
-    serve_stream_in(
-        zone,
-        source,
-        sink,
-        most,
-        &mut StreamRoom::new(),
-        &Unbuffered,
-    )
-}
-
-/// What a session knows about its source and its sink besides their octets: whether the next
-/// message has arrived, and which octets the sink still keeps.
-pub trait Ends<W: Write> {
-    /// The octets that a sink keeps until it is flushed.
-    ghost kept: { W → List ℕ };
-
-    /// Evidence that a whole message has arrived, so that reading it does not wait. Only `arrived`
-    /// returns it.
-    type Arrived: Drop;
-
-    /// Called before each message is read. Precondition: the sink keeps nothing, unless the whole
-    /// message has arrived.
-    fn begin(&self, sink: &Tally<W>, arrived: &Option<Self::Arrived>)
-        requires { IsNone arrived.now → kept sink.now.device ≡ [] };
-
-    /// Returns evidence if the whole next message has arrived, else `None`.
-    fn arrived(&self) -> Option<Self::Arrived>;
-
-    /// Makes the sink pass on what it keeps.
-    fn flush(&self, sink: &mut Tally<W>) -> Result<(), SinkFailed>
-        requires { sink.old.failures < 2 ^ 64 - 1 }
-        ensures written { Writes W.contents sink.old sink.new result [] }
-        ensures empty { OnOk result (kept sink.new.device ≡ []) };
-}
-
-// For a session that never knows whether a message has arrived: it flushes after each message.
-struct Unbuffered;
-
-impl<W: Write> Ends<W> for Unbuffered {
-    ghost kept = { λ _. [] };
-
-    type Arrived = ();
-
-    fn begin(&self, _sink: &Tally<W>, _arrived: &Option<()>) {}
-
-    fn arrived(&self) -> Option<()> {
-        None
-    }
-
-    fn flush(&self, sink: &mut Tally<W>) -> Result<(), SinkFailed> {
-        sink.flush()
-    }
-}
-
-/// The buffers of a session: for the frame of a message, for its reply and length, and for
-/// the draft of the reply. `serve_stream_in` can use them for one session after another, without
-/// clearing them.
-#[derive(Drop)]
-pub struct StreamRoom {
-    frame: Frame,
-    reply: [u8; MOST_FRAME],
-    draft: TcpDraft,
-}
-
-impl StreamRoom {
-    /// New buffers: about 197,000 octets, stored inline.
-    pub fn new() -> StreamRoom {
-        StreamRoom {
-            frame: Frame::new(),
-            reply: [0; MOST_FRAME],
-            draft: TcpDraft::new(),
-        }
-    }
-}
-
-/// Serves a stream as `serve_stream` does, in the caller's buffers.
-///
-/// The buffers are not cleared, and earlier sessions in them have no effect. After a message the
-/// sink is flushed, unless `ends` reports that the next message has arrived. So a sink that buffers
-/// replies keeps none of them while the session waits for a message. A session that does not fail
-/// leaves nothing unflushed in its sink.
-pub fn serve_stream_in<R: Read, W: Write, E: Ends<W>>(
-    zone: &Zone,
-    source: &mut Tally<R>,
-    sink: &mut Tally<W>,
-    most: u32,
-    room: &mut StreamRoom,
-    ends: &E,
-) -> Result<u32, StreamFault>
-    requires source { source.old.failures < 2 ^ 64 - 1 }
-    requires sink { sink.old.failures < 2 ^ 64 - 1 }
-    requires kept { E.kept sink.old.device ≡ [] }
-    ensures kept { OnOk result (E.kept sink.new.device ≡ []) }
-    ensures session { SessionOf (reply_over_tcp zone.now) most
-        (session R.remaining W.contents source.old source.new sink.old sink.new) result }
-    ensures source { source.new.failures ≡ source_failures_after source.old.failures result }
-    ensures sink { sink.new.failures ≡ sink_failures_after sink.old.failures result }
-{
+    let (mut frame, mut room) = (Frame::new(), [0; MOST_FRAME]);
+    let mut draft = TcpDraft::new();
     let mut served = 0;
-    let mut arrived = None;
     'messages: while served < most {
-        ends.begin(sink, &arrived);
-        if !read_frame(source, &mut room.frame, &mut room.reply)? {
+        if !read_frame(source, &mut frame, &mut room)? {
             break;
         }
-        let message = room.frame.message();
-        write_reply(zone, message, sink, &mut room.draft, &mut room.reply)?;
+        let message = frame.message();
+        write_reply(zone, message, sink, &mut draft, &mut room)?;
+        sink.flush()?;
         served += 1;
-        arrived = if served < most { ends.arrived() } else { None };
-        if arrived.is_none() {
-            ends.flush(sink)?;
-        }
-    }
-    if arrived.is_some() {
-        ends.flush(sink)?;
     }
     Ok(served)
 }

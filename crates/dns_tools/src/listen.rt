@@ -10,9 +10,12 @@ use dns_answer::UdpDraft;
 use dns_serve::{Datagrams, udp_turn_in};
 use dns_zone::Zone;
 use std::io::ErrorKind;
-use std::net::{Net, SocketAddr, TcpListener, TcpStream, UdpSocket};
+use std::net::{IpAddr, Net, SocketAddr, TcpListener, TcpStream, UdpSocket};
 use std::os::fd::{AsFd, OwnedFd};
 use std::time::Clock;
+
+// How often a call on a given socket is repeated that says nothing about the kind of the socket.
+const MOST_PROBES: u32 = 16;
 
 /// A UDP socket at an address, which has received nothing yet. Fails with `bind` if the address
 /// can't be used.
@@ -87,15 +90,25 @@ pub fn given_listener<I: AsFd>(given: &I) -> Result<TcpListener, FaultWord>
     Err(FaultWord::NotBound)
 }
 
-// Whether a socket with this address is a UDP socket with a port, and not connected. Sending to port
-// 0 is invalid over UDP. A raw socket has no ports: it sends these octets, an IP header for a socket
-// that takes one, to its own host, which discards them.
+// Whether a socket with this address is a UDP socket with a port, and not connected.
 fn is_udp(socket: &UdpSocket, address: SocketAddr) -> bool {
+    address.port() > 0 && socket.peer_addr().is_err() && refuses_port_0(socket, address.ip())
+}
+
+// Whether the socket refuses to send to port 0, which is invalid over UDP. A raw socket has no ports:
+// it sends these octets, an IP header for a socket that takes one, to its own host, which discards
+// them. A call that fails for another reason, as want of buffers, is repeated.
+fn refuses_port_0(socket: &UdpSocket, ip: IpAddr) -> bool {
     let mut octets = [0; 40];
     octets[0] = 0x45;
-    let sent = socket.send_to(&octets, SocketAddr::new(address.ip(), 0));
-    let is_invalid = sent.is_err_and(|error| error.kind() == ErrorKind::InvalidInput);
-    address.port() > 0 && is_invalid && socket.peer_addr().is_err()
+    'calls: for _ in 0..MOST_PROBES {
+        match socket.send_to(&octets, SocketAddr::new(ip, 0)) {
+            Ok(_) => break,
+            Err(error) if error.kind() == ErrorKind::InvalidInput => return true,
+            Err(_) => {}
+        }
+    }
+    false
 }
 
 // A duplicate of the given descriptor.

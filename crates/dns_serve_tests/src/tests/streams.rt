@@ -1,81 +1,41 @@
 use super::frames::{EMPTY, LONG, REFUSED, WWW, WWW_REPLY, ZEROS};
-use dns_name::{SinkFailed, Tally};
+use dns_name::Tally;
 use dns_samples_tests::{Kept, Pieces, SMALL};
-use dns_serve::{Ends, StreamFault, StreamRoom, serve_stream, serve_stream_in};
+use dns_serve::{StreamFault, serve_stream};
 use dns_zone::Zone;
 use dns_zone_tests::zone_of;
 use std::alloc::{AllocError, Global};
-use std::cell::Cell;
-use std::io::Write;
 use std::process::Abort;
 use std::test::Fail;
 
-/// The outcome of a session: its result, how often it called `Ends::begin`, what was written, how
-/// many octets were not read, and for source and sink whether it failed, and its failure count.
+/// The outcome of a session: its result, what was written, how many octets were not read, and for
+/// source and sink whether it failed, and its failure count.
 #[derive(Drop)]
 struct Left {
     answer: Result<u32, StreamFault>,
-    begun: u32,
     written: Vec<u8>,
     unread: usize,
     has_failed: (bool, bool),
     failures: (u64, u64),
 }
 
-// How many octets a call of a device transfers at most, how many reads and how many writes work
-// before one fails, and whether the next message has arrived after each message.
-type Devices = (usize, u32, u32, bool);
+// How many octets a call of a device transfers at most, and how many reads and how many writes work
+// before one fails.
+type Devices = (usize, u32, u32);
 
 // More octets than a session transfers, and more calls than it makes.
 const MANY: u32 = 1_000_000;
 
-// `Ends` that report either after each message that the next message has arrived, or never. The
-// sink keeps nothing, and the calls of `begin` are counted.
-#[derive(Drop)]
-struct Told {
-    has_arrived: bool,
-    begun: Cell<u32>,
-}
-
-impl<W: Write> Ends<W> for Told {
-    ghost use Rattle.std.specs.Prelude.{[]};
-
-    ghost kept = { λ _. [] };
-
-    type Arrived = ();
-
-    fn begin(&self, _sink: &Tally<W>, _arrived: &Option<()>) {
-        self.begun.set(self.begun.get().saturating_add(1));
-    }
-
-    fn arrived(&self) -> Option<()> {
-        self.has_arrived.then_some(())
-    }
-
-    fn flush(&self, sink: &mut Tally<W>) -> Result<(), SinkFailed> {
-        sink.flush()
-    }
-}
-
-fn ends_of(has_arrived: bool) -> Told {
-    Told {
-        has_arrived,
-        begun: Cell::new(0),
-    }
-}
-
 // A session for at most `most` messages.
 fn session(alloc: Global, zone: &Zone, input: &[u8], most: u32, devices: Devices) -> Left {
-    let (octets, reads, writes, has_arrived) = devices;
-    let (mut room, ends) = (StreamRoom::new(), ends_of(has_arrived));
+    let (octets, reads, writes) = devices;
     let mut source = Tally::new(Pieces::new(input, octets, reads));
     let mut sink = Tally::new(Kept::new(alloc, octets, writes));
-    let answer = serve_stream_in(zone, &mut source, &mut sink, most, &mut room, &ends);
+    let answer = serve_stream(zone, &mut source, &mut sink, most);
     let failures = (source.failures(), sink.failures());
     let (source, sink) = (source.into_inner(), sink.into_inner());
     Left {
         answer,
-        begun: ends.begun.get(),
         unread: source.text.len(),
         has_failed: (source.calls.has_failed(), sink.calls.has_failed()),
         failures,
@@ -111,8 +71,7 @@ const SESSIONS: &[Session<'static>] = &[
     (&[], 9, 0, 0, &[]),
 ];
 
-// Whether a session that transfers at most `piece` octets a call is as wanted. It calls `begin`
-// also before it finds the end of the source.
+// Whether a session that transfers at most `piece` octets a call is as wanted.
 fn is_session(
     alloc: Global,
     zone: &Zone,
@@ -122,9 +81,8 @@ fn is_session(
     let (messages, most, count, unread, replies) = row;
     let input = messages.concat(alloc)?;
     let wanted = replies.concat(alloc)?;
-    let left = session(alloc, zone, &input, most, (piece, MANY, MANY, true));
-    let begun = count.saturating_add(1).min(most);
-    Ok(has_ended(&left, Ok(count), &wanted) & (left.unread == unread) & (left.begun == begun))
+    let left = session(alloc, zone, &input, most, (piece, MANY, MANY));
+    Ok(has_ended(&left, Ok(count), &wanted) & (left.unread == unread))
 }
 
 fn check_sessions(rt: &impl Abort, alloc: Global, zone: &Zone) -> Result<(), AllocError> {
@@ -132,38 +90,6 @@ fn check_sessions(rt: &impl Abort, alloc: Global, zone: &Zone) -> Result<(), All
         for piece in [1, 2, 3, 512, 100_000] {
             assert!(rt; is_session(alloc, zone, row, piece)?, "{row:?}");
         }
-    }
-    Ok(())
-}
-
-// Sessions in one room, one after another: the octets sent, the number of messages served, and the
-// replies.
-const ROOM: &[(&[&[u8]], u32, &[&[u8]])] = &[
-    (&[WWW, ABSENT, LONG, ZEROS], 3, &[WWW_REPLY, REFUSED]),
-    (&[WWW], 1, &[WWW_REPLY]),
-    (&[], 0, &[]),
-    (&[LONG, ZEROS, WWW], 2, &[REFUSED, WWW_REPLY]),
-];
-
-// Whether messages are served, with these replies, in a room that was used before.
-fn is_served(
-    alloc: Global,
-    zone: &Zone,
-    room: &mut StreamRoom,
-    row: (&[&[u8]], u32, &[&[u8]]),
-) -> Result<bool, AllocError> {
-    let input = row.0.concat(alloc)?;
-    let wanted = row.2.concat(alloc)?;
-    let mut source = Tally::new(input.as_slice());
-    let mut sink = Tally::new(Vec::new(alloc));
-    let answer = serve_stream_in(zone, &mut source, &mut sink, 9, room, &ends_of(false));
-    Ok((answer == Ok(row.1)) & (sink.into_inner() == wanted))
-}
-
-fn check_room(rt: &impl Abort, alloc: Global, zone: &Zone) -> Result<(), AllocError> {
-    let mut room = StreamRoom::new();
-    for &row in ROOM {
-        assert!(rt; is_served(alloc, zone, &mut room, row)?, "{row:?}");
     }
     Ok(())
 }
@@ -178,7 +104,7 @@ fn front(octets: &[u8], length: usize) -> &[u8] {
 // Whether a session over the first `length` octets of two messages ends with `Cut`, after the
 // replies to the complete messages.
 fn is_cut(alloc: Global, (zone, messages, replies): Asked<'_>, length: usize) -> bool {
-    let devices = (512, MANY, MANY, true);
+    let devices = (512, MANY, MANY);
     let left = session(alloc, zone, front(messages, length), 9, devices);
     let written = if length < 31 { 0 } else { 47 };
     has_ended(&left, Err(StreamFault::Cut), front(replies, written))
@@ -187,7 +113,7 @@ fn is_cut(alloc: Global, (zone, messages, replies): Asked<'_>, length: usize) ->
 // Whether the sink is flushed after the last message to serve: the sink's second call, which is
 // that flush, fails.
 fn sends_the_last(alloc: Global, (zone, messages, replies): Asked<'_>) -> bool {
-    let left = session(alloc, zone, messages, 1, (512, MANY, 1, true));
+    let left = session(alloc, zone, messages, 1, (512, MANY, 1));
     has_ended(&left, Err(StreamFault::SinkFailed), front(replies, 47))
 }
 
@@ -206,7 +132,7 @@ fn ends_at_read(
     most: usize,
     reads: u32,
 ) -> bool {
-    let left = session(alloc, zone, messages, 9, (most, reads, MANY, true));
+    let left = session(alloc, zone, messages, 9, (most, reads, MANY));
     let replies = match left.unread {
         0 => replies,
         1..45 => front(replies, 47),
@@ -223,14 +149,18 @@ fn ends_at_write(
     most: usize,
     writes: u32,
 ) -> bool {
-    let left = session(alloc, zone, messages, 9, (most, MANY, writes, true));
+    let left = session(alloc, zone, messages, 9, (most, MANY, writes));
     has_ended(&left, Ok(3), replies) || is_unsent(&left, replies)
 }
 
 fn is_unsent(left: &Left, replies: &[u8]) -> bool {
     let written = left.written.len();
-    has_ended(left, Err(StreamFault::SinkFailed), front(replies, written))
-        && left.unread == if written < 47 { 44 } else { 0 }
+    let is_unread = match written {
+        0..47 => left.unread == 44,
+        47 => left.unread <= 44,
+        _ => left.unread == 0,
+    };
+    has_ended(left, Err(StreamFault::SinkFailed), front(replies, written)) && is_unread
 }
 
 fn check_calls(rt: &impl Abort, alloc: Global, asked: Asked<'_>) {
@@ -252,14 +182,13 @@ const SENDS: &[(u32, usize, usize)] = &[
     (4, 0, 94),
 ];
 
-// Whether a session that never has the next message at hand ends as in the row if a call of its
-// sink fails.
+// Whether a session ends as in the row if a call of its sink fails.
 fn ends_at_send(
     alloc: Global,
     (zone, messages, replies): Asked<'_>,
     row: (u32, usize, usize),
 ) -> bool {
-    let left = session(alloc, zone, messages, 9, (512, MANY, row.0, false));
+    let left = session(alloc, zone, messages, 9, (512, MANY, row.0));
     let is_unread = left.unread == row.1;
     has_ended(&left, Err(StreamFault::SinkFailed), front(replies, row.2)) && is_unread
 }
@@ -295,7 +224,6 @@ fn check_failures(rt: &impl Abort, alloc: Global, zone: &Zone) -> Result<(), All
 fn messages_and_their_replies(rt: HostRuntime) -> Result<(), Fail> {
     let zone = zone_of(rt.alloc(), b"example", SMALL, "")?;
     check_sessions(&rt, rt.alloc(), &zone)?;
-    check_room(&rt, rt.alloc(), &zone)?;
     check_failures(&rt, rt.alloc(), &zone)?;
     Ok(())
 }

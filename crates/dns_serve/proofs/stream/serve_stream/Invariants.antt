@@ -1,11 +1,9 @@
-use Rattle.dns_spec.proofs.Common.{◌≡◌, ◌-◌, ◌≤◌, []}
-use Rattle.std.specs.Prelude.{IsNone, IsSome}
+use Rattle.dns_spec.proofs.Common.{◌≡◌, ◌-◌, ◌≤◌, length}
 use Rattle.dns_serve.specs.Streams.{reply_over_tcp}
 use Rattle.dns_serve.proofs.Sessions.{Done}
-use Rattle.dns_serve.proofs.stream.serve_stream_in.Given as goal
+use Rattle.dns_serve.proofs.stream.serve_stream.Given as goal
 
--- `served` messages were read, their replies were written, no device has failed, and the sink keeps
--- nothing, unless the next message has arrived
+-- `served` messages were read, their replies were written, and no device has failed
 abbrev pub invariant-messages : goal.invariant-messages
 invariant-messages g l = record {
   done : Done (reply_over_tcp l.zone) (record {
@@ -18,8 +16,7 @@ invariant-messages g l = record {
   same : l.most ≡ l.initial.most;
   source : l.source.failures ≡ l.initial.source.failures;
   sink : l.sink.failures ≡ l.initial.sink.failures;
-  kept : IsNone l.arrived → g.E.Ends.kept l.sink.device ≡ [];
-  some : IsSome l.arrived → 1 ≤ l.served;
+  room : length l.room ≡ 65537;
 }
 
 abbrev pub decreases-messages : goal.decreases-messages
