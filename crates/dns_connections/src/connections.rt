@@ -1,5 +1,5 @@
 //! Serves the connections of a listening socket, many at once and each in its turn.
-ghost use Rattle.std.specs.Prelude.{◌≡◌, ◌+◌, [], IfOk, IfErr, OnOk, OnErr};
+ghost use Rattle.std.specs.Prelude.{◌≡◌, ◌+◌, [], Ok, IfOk, IfErr, OnOk, OnErr};
 ghost use Rattle.dns_spec.specs.Records.{ZoneContents};
 ghost use Rattle.dns_connections.specs.Exchanges.{HasServed, HasClosed, IsFresh, IsServed};
 ghost use Rattle.slab.specs.Slab.{slab_len};
@@ -73,7 +73,9 @@ pub enum Places {
 
 /// Serves `turns` connections of a listening socket, or fewer if the server is asked to end, and
 /// returns the sockets once no connection is left. Connections that can't be accepted count too.
-/// Fails only if allocation fails.
+///
+/// Calls `begin` once, after it has allocated what it needs for serving, and before it accepts a
+/// connection. Fails only if this allocation or `begin` fails.
 ///
 /// Each connection gets its turns in order; a turn receives at most 16,384 octets. A connection
 /// that for 10 seconds neither completes a message nor takes all its replies is closed. At most
@@ -88,22 +90,30 @@ pub enum Places {
 /// on it, in order. If its input has ended, it is all of them.
 // Out of line: it has some 400 KB on the stack, which no other service needs.
 #[inline(never)]
-pub fn serve_connections<K: Sockets>(
+pub fn serve_connections<K, E, B>(
     alloc: Global,
     zone: &Zone,
     sockets: K,
     turns: u32,
     most: u64,
     places: Places,
-) -> Result<K, AllocError>
-    ensures { IfOk result (λ then. HasServed zone.now most (K.state sockets) (K.state then)) }
+    begin: B,
+) -> Result<K, E>
+where
+    K: Sockets,
+    E: From<AllocError>,
+    B: FnOnce() -> Result<(), E> + Drop,
+    requires { B.IsAlwaysCallable begin }
+    ensures begun { OnOk result (B.post begin (Ok tt)) }
+    ensures served { IfOk result
+        (λ then. HasServed zone.now most (K.state sockets) (K.state then)) }
 {
     let plan = Plan {
         turns,
         most,
         places,
     };
-    serve::<Brand, K>(alloc, zone, sockets, plan)
+    serve::<Brand, K, E, B>(alloc, zone, sockets, plan, begin)
 }
 
 // How many connections are served, how many messages on each, and how many connections at once.
@@ -114,18 +124,21 @@ struct Plan {
     places: Places,
 }
 
-fn serve<Z: Served, K: Sockets>(
-    alloc: Global,
-    zone: &Zone,
-    sockets: K,
-    plan: Plan,
-) -> Result<K, AllocError>
+fn serve<Z, K, E, B>(alloc: Global, zone: &Zone, sockets: K, plan: Plan, begin: B) -> Result<K, E>
+where
+    Z: Served,
+    K: Sockets,
+    E: From<AllocError>,
+    B: FnOnce() -> Result<(), E> + Drop,
     requires zone { zone.now ≡ Z.zone }
     requires most { plan.most ≡ Z.most }
     requires before { K.state sockets ≡ Z.before }
-    ensures { IfOk result (λ then. HasServed Z.zone Z.most Z.before (K.state then)) }
+    requires begin { B.IsAlwaysCallable begin }
+    ensures begun { OnOk result (B.post begin (Ok tt)) }
+    ensures served { IfOk result (λ then. HasServed Z.zone Z.most Z.before (K.state then)) }
 {
     let mut connections: Connections<'_, Z, K> = Connections::new(alloc, zone, sockets, plan)?;
+    begin()?;
     connections.run();
     let Connections {
         mut sockets,

@@ -69,6 +69,7 @@ where
                 *turns,
                 MOST_MESSAGES,
                 Places::One,
+                || Ok::<(), FaultWord>(()),
             )?
             .finish()
         }

@@ -67,8 +67,9 @@ where
         }
         Limit::Tcp => {
             let sockets = Epoll::new(rt, given_listener(given)?, Some(&watch))?;
-            say_serving(rt, zone)?;
-            serve_connections(rt.alloc(), zone, sockets, turns, u64::MAX, Places::Many)?.finish()
+            let begin = || say_serving(rt, zone);
+            let (most, places) = (u64::MAX, Places::Many);
+            serve_connections(rt.alloc(), zone, sockets, turns, most, places, begin)?.finish()
         }
     };
     Ok(status_of_turns(are_said))

@@ -26,8 +26,8 @@ left-preserved g c = record {
       (one_ended _ _ _ _ _ _ (ap (λ s. s.closed) c.close.ensures) c.end.ensures);
 }
 
-pub returns : goal.returns
-returns g c = record {
+pub returns-clause-served : goal.returns-clause-served
+returns-clause-served g c = record {
   closed = has_closed _ _ _ _ c.left.invariant.closed;
   connected = omega (arith, c.left.invariant.connected, ap length c.in-None.ensures.steps.0);
 }
