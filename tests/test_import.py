@@ -202,9 +202,8 @@ REFUSES = {r"R11: .* does not read ": "a type that dnspython does not read",
            r"R11: the data is invalid for EUI": "an address with an octet of one digit (RFC 7043)",
            r"R09: ": "a TTL above 2147483647"}
 # What zoneimport accepts and BIND refuses: a CAA record whose mailbox is not a URL, and a NAPTR record with another
-# expression. It should refuse three more: more than two decimals of a metre in LOC, which are cut off, octets in ech
-# that are not base64, and groups in NID and L64 that are not hexadecimal.
-ACCEPTS = re.compile(r"CAA \d+ iodef|NAPTR|LOC .*\.\d{3}|ech=\S*-|(NID|L64) .*[-x]", re.I)
+# expression.
+ACCEPTS = re.compile(r"CAA \d+ iodef|NAPTR", re.I)
 
 
 def differing_entries(seed, folder):

@@ -22,6 +22,8 @@ BASE64 = {"CERT": slice(3, None), "IPSECKEY": slice(4, None), "DHCID": slice(Non
           "CDNSKEY": slice(3, None), "OPENPGPKEY": slice(None)}
 # The octets of a fingerprint by its type (RFC 4255 3.1.2, RFC 6594 4).
 FINGERPRINTS = {1: 20, 2: 32}
+GROUPS = re.compile(r"[0-9a-fA-F]{1,4}(?::[0-9a-fA-F]{1,4}){3}")
+METRES = re.compile(r"-?\d*\.\d{3,}m?", re.I)
 PARAMETER = re.compile(r'(?:[^ "\\]|\\.|"(?:[^"\\]|\\.)*")+', re.S)
 
 
@@ -60,7 +62,7 @@ def service(text):
     priority, *tokens = PARAMETER.findall(text)
     for at, token in enumerate(tokens[1:], 1):
         key, equals, value = token.partition("=")
-        wanted = {"port": r'"?\d+"?', "dohpath": r'"?/.*\{\?dns\}.*'}.get(key, ".*")
+        wanted = {"port": r'"?\d+"?', "dohpath": r'"?/.*\{\?dns\}.*', "ech": r'"?[A-Za-z0-9+/]*=*"?'}.get(key, ".*")
         refuse(key != key.lower() or not re.fullmatch(wanted, value, re.S), f"{token} is not allowed there")
         key = "key7" if key == "dohpath" else key
         value = value.replace("dohpath", "key7") if key == "mandatory" else value
@@ -83,7 +85,12 @@ def by_dnspython(rtype, entry, origin):
     if rtype in ("CERT", "CDNSKEY", "CDS"):
         tokens[:3] = [{"NSEC3DSA": "6", "NSEC3RSASHA1": "7"}.get(token.upper(), token.upper()) for token in tokens[:3]]
     elif rtype in ("NID", "L64"):
+        refuse(not GROUPS.fullmatch(tokens[-1]), f"{tokens[-1]} is not four groups of hexadecimal digits")
         tokens[1:] = [":".join(group.zfill(4) for group in token.split(":")) for token in tokens[1:]]
+    elif rtype == "LOC":
+        begin = next((at for at, token in enumerate(tokens) if token.upper() in ("E", "W")), len(tokens))
+        finer = next((token for token in tokens[begin:] if METRES.fullmatch(token)), None)
+        refuse(finer, f"{finer} is finer than a centimetre")
     elif rtype == "NSAP":
         tokens = [re.sub("^0X", "0x", token) for token in tokens]
     text = " ".join(escaped(token, "\t -~") for token in tokens)
