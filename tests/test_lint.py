@@ -15,7 +15,6 @@ import xml.etree.ElementTree
 from pathlib import Path
 
 import pytest
-import servers
 from servers import TOP, run
 
 LINT, DATA = TOP / "bin" / "zonelint", TOP / "tests" / "data"
