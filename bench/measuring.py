@@ -2,7 +2,9 @@
 import contextlib
 import glob
 import os
+import shutil
 import subprocess
+import sys
 import tempfile
 from pathlib import Path
 
@@ -18,6 +20,13 @@ def program(name):
     """A built program: that of the folder $PROGRAMS, or of this checkout."""
     folder = os.environ.get("PROGRAMS")
     return str(Path(folder, name).resolve() if folder else TOP / "crates" / name / "out" / name)
+
+
+def need(*programs):
+    """Ends this program with a message if one of the programs is missing."""
+    for name in programs:
+        if not shutil.which(name):
+            sys.exit(f"{name} is missing")
 
 
 def mixed_zone():
