@@ -12,4 +12,5 @@ pub mod BeginningsMean
 pub mod EntryReading
 pub mod LineCounts
 pub mod FirstFault
+pub mod NoFault
 pub mod OneListing

@@ -4,7 +4,7 @@ ghost use Rattle.std.specs.Prelude.{◌≡◌, ◌≢◌, ◌≤◌, ◌++◌, �
 ghost use Rattle.dns_spec.specs.Names.{Octets, DomainName};
 ghost use Rattle.dns_spec.specs.FileFaults.{FileFault, too_long};
 ghost use Rattle.dns_spec.specs.ZoneText.{most_octets, Extent, beginning, Entry};
-ghost use Rattle.dns_spec.specs.Meaning.{Meaning, Nothing, fault_at, Means};
+ghost use Rattle.dns_spec.specs.Meaning.{Meaning, Nothing, records, fault_at, Means};
 ghost use Rattle.dns_spec.specs.Records.{ResourceRecord};
 ghost use Rattle.dns_spec.specs.AllFaults.{EntryFault, AllFaults};
 ghost use Rattle.dns_spec.specs.Laws.{OctetsMean, meaning_by};
@@ -45,6 +45,12 @@ pub fn first_of_all_faults_is_the_meaning()
     ensures { (o : DomainName) (text : Octets) (found : List EntryFault)
         (rs : List ResourceRecord) → AllFaults o text found rs
         → Means o text (meaning_by text found rs) }
+{}
+
+/// A text that means records has no fault, and its entries give these records.
+pub fn text_of_records_has_no_fault()
+    ensures { (o : DomainName) (text : Octets) (rs : List ResourceRecord)
+        → Means o text (records rs) → AllFaults o text [] rs }
 {}
 
 /// A text has at most one list of all faults, and at most one list of records beside it.

@@ -9,12 +9,12 @@ use Rattle.dns_spec.proofs.ZoneTexts.LineCounts.{feeds, feeds_append, tokens_fro
 use Rattle.dns_spec.proofs.ZoneTexts.SomeMeaning.{Known, known_more, nothing_known, sort_given, faultless, entry_sure}
 
 -- the first of the entries into which a text is split, if reading it ends as it should
-record FirstEntry (extent : Extent) (text : Octets) (e : Entry) : Type 0 where
-  others : List Entry
-  are : EntriesOf extent text (e ∷ others)
+pub record FirstEntry (extent : Extent) (text : Octets) (e : Entry) : Type 0 where
+  pub others : List Entry
+  pub are : EntriesOf extent text (e ∷ others)
 
 -- the rest of the entries after one that ends with its line end
-ended_first : (extent : Extent) (text rest : Octets) (ts : List Token) (es : List Entry)
+pub ended_first : (extent : Extent) (text rest : Octets) (ts : List Token) (es : List Entry)
     → LineRead false text ts rest → EntriesOf extent rest es
     → EntriesOf extent text (ended ts ∷ es)
 ended_first extent text rest ts es read more =
@@ -52,7 +52,7 @@ line_first extent text rest ts read =
       });
     }
 
-stop_only : (extent : Extent) (text rest : Octets) (ts : List Token) (now : Bool)
+pub stop_only : (extent : Extent) (text rest : Octets) (ts : List Token) (now : Bool)
     → StopRead false text ts now rest → EntriesOf extent text
     (record { tokens = ts; end_fault = stop_fault extent now (stop_at rest) } ∷ [])
 stop_only extent text rest ts now read =
@@ -66,12 +66,12 @@ stop_only extent text rest ts now read =
     }
 
 -- an entry with a misplaced parenthesis
-record WrongEntry (extent : Extent) (text : Octets) : Type 0 where
-  entry : Entry
-  first : FirstEntry extent text entry
-  fault : lexical_fault entry ≡ Some bad_parenthesis
+pub record WrongEntry (extent : Extent) (text : Octets) : Type 0 where
+  pub entry : Entry
+  pub first : FirstEntry extent text entry
+  pub fault : lexical_fault entry ≡ Some bad_parenthesis
 
-wrong_entry : (extent : Extent) (text : Octets) (ts : List Token)
+pub wrong_entry : (extent : Extent) (text : Octets) (ts : List Token)
     → WrongRead false text ts → WrongEntry extent text
 wrong_entry extent text ts read = by_others w.others w.cuts
   where
@@ -123,7 +123,7 @@ wrong_entry extent text ts read = by_others w.others w.cuts
 
 -- `beyond` is what follows the examined octets
 module _ (o : DomainName) (octets past beyond : Octets) where
-  abbrev extent : Extent
+  abbrev pub extent : Extent
   extent = extent_by (nat_lt 0 (length past))
 
   -- what octets mean that follow these entries
@@ -150,10 +150,10 @@ module _ (o : DomainName) (octets past beyond : Octets) where
       → lexical_fault e ≡ Some fault → answer ≡ faulty fault → EntryGives o earlier e answer
   given_lexical earlier e fault answer is h = grind arith
 
-  abbrev wrong_one : List Token → Entry
+  abbrev pub wrong_one : List Token → Entry
   wrong_one ts = record { tokens = ts; end_fault = Some bad_parenthesis }
 
-  wrong_is : (ts : List Token) → lexical_fault (wrong_one ts) ≡ Some bad_parenthesis
+  pub wrong_is : (ts : List Token) → lexical_fault (wrong_one ts) ≡ Some bad_parenthesis
   wrong_is ts = go (take_turns false (parentheses ts))
     where
       go : (b : Bool) → cond b (Some bad_parenthesis) (Some bad_parenthesis) ≡ Some bad_parenthesis
@@ -185,15 +185,15 @@ module _ (o : DomainName) (octets past beyond : Octets) where
       (wrong_is (tokens_of ps)) given)) is
 
   -- an entry with a lexical fault gives no records
-  abbrev Lexical : Entry → Type 0
+  abbrev pub Lexical : Entry → Type 0
   Lexical e = (fault : FileFault) × (lexical_fault e ≡ Some fault)
 
-  none_given : {A : Type 0} (earlier : List Entry) (e : Entry) (own : List ResourceRecord)
+  pub none_given : {A : Type 0} (earlier : List Entry) (e : Entry) (own : List ResourceRecord)
       → Lexical e → EntryGives o earlier e (gives own) → A
   none_given earlier e own (fault, is) given =
       absurd (faultless own fault (lexical_given earlier e fault (gives own) is given))
 
-  stops : (now : Bool) (c : ℕ) (rest : Octets)
+  pub stops : (now : Bool) (c : ℕ) (rest : Octets)
       → (fault : FileFault) × (stop_fault extent now (stop_at (c ∷ rest)) ≡ Some fault)
   stops now c rest = go extent (c == 34)
     where
@@ -205,7 +205,7 @@ module _ (o : DomainName) (octets past beyond : Octets) where
       go beginning true = (_, refl)
       go beginning false = (_, refl)
 
-  lexical_stop : (ts : List Token) (end : Option FileFault)
+  pub lexical_stop : (ts : List Token) (end : Option FileFault)
       → (fault : FileFault) × (end ≡ Some fault)
       → Lexical (record { tokens = ts; end_fault = end })
   lexical_stop ts end (fault, is) = go (take_turns false (parentheses ts))
@@ -351,7 +351,7 @@ less_left k n = go (nat_lt k n) refl
         ltb_none : (m : ℕ) → m ≡ 0 → nat_lt 0 m ≡ false
         ltb_none m is = rw is refl
 
-goes_on : (k : ℕ) (text : Octets)
+pub goes_on : (k : ℕ) (text : Octets)
     → nat_lt 0 (length (take 1 (drop k text))) ≡ nat_lt k (length text)
 goes_on k text =
     some_left (drop k text) ∙ ap (nat_lt 0) (length-drop k text) ∙ less_left k (length text)

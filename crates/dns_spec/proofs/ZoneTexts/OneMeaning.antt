@@ -118,7 +118,7 @@ entries_once o earlier (e ∷ es) m n (a, gives_a, h) (b, gives_b, k) =
     (subst (FromHere o earlier e es m) (entry_gives_once o earlier e a b gives_a gives_b) h) k
 
 -- at most one list of tokens begins a text and extends to a place where no token begins
-tokens_once : (text : Octets) (ps qs : List Token) (rest others : Octets)
+pub tokens_once : (text : Octets) (ps qs : List Token) (rest others : Octets)
     → TokensThen text ps rest → TokensThen text qs others
     → token_front rest ≡ None → token_front others ≡ None → (ps ≡ qs) × (rest ≡ others)
 tokens_once text [] [] rest others h k end end' = (refl, sym h ∙ k)
