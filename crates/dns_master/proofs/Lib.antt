@@ -15,3 +15,6 @@ pub mod ScanSteps
 pub mod EarlierSteps
 pub mod JudgeSteps
 pub mod ListingSteps
+pub mod FaultListSteps
+pub mod GivenCount
+pub mod ListingLoop

@@ -442,3 +442,10 @@ pub spot_at : (spots later : List CodePlace) (n : ℕ) (otherwise : Place)
 spot_at spots later n otherwise is =
     ap (λ ps. first_place (map shown_place ps) otherwise) is
     ∙ ap (λ ps. first_place ps otherwise) (sym (drop-map shown_place n spots))
+
+-- the kind of an entry that was read
+pub entry-kind : (s : ScannedEntry) (h : EntryScanned s) (blank : Bool)
+    → blank ≡ list_any is_blank (take 1 s.rest.now)
+    → kind_of (placed s).entry ≡ kind_by_words blank s.words.now
+entry-kind s h blank led =
+    kind-is (length s.octets.now) s.past.now s.rest.now s.words.now h.scanned.words_are blank led

@@ -13,3 +13,4 @@ pub mod ScanForm
 pub mod EarlierForm
 pub mod JudgeForm
 pub mod ListingForm
+pub mod FaultListForm

@@ -1,5 +1,5 @@
 -- The faults of a text as the code lists them, and the reading of one entry.
-use Rattle.std.specs.Prelude.{ℕ, ◌-◌, ◌≤◌, List, ◌∷◌, length, map, drop, false}
+use Rattle.std.specs.Prelude.{ℕ, ◌-◌, ◌^◌, ◌<◌, ◌≤◌, List, ◌∷◌, length, map, drop, false}
 use Rattle.dns_spec.specs.Names.{Octets, DomainName}
 use Rattle.dns_spec.specs.ZoneText.{Entry}
 use Rattle.dns_spec.specs.Records.{ResourceRecord}
@@ -10,7 +10,7 @@ use Rattle.dns_spec.specs.EntryPlaces as places
 use Rattle.dns_spec.specs.AllFaults.{first_place, HasFault, GivesOwn, EntriesGive, most_listed}
 use Rattle.dns_spec.specs.AllFaults as all
 use Rattle.dns_master.specs.Codes.{fault_of}
-use Rattle.dns_master.specs.EarlierForm.{LooksBack}
+use Rattle.dns_master.specs.EarlierForm.{LooksBack, Passed}
 use Rattle.dns_master.specs.JudgeForm.{at_most_one}
 use Rattle.dns_master.specs.ScanForm.{shown_place, ScansEntry}
 use Rattle.dns_master.specs.declared.earlier.Earlier.{Earlier}
@@ -31,7 +31,7 @@ pub record EntryScanned (s : ScannedEntry) : Type 0 where
       s.words.now s.places.now s.read
   pub short : length s.rest.now ≤ length s.octets.now
   pub few : length s.octets.now ≤ 16777216
-  pub words_few : length s.words.now ≤ 16777217
+  pub words_few : length s.words.now < 2 ^ 60
 
 abbrev pub placed : ScannedEntry → PlacedEntry
 placed s = entry_at (length s.octets.now) s.past.now s.rest.now
@@ -66,3 +66,9 @@ Judges k e (Gives one) =
 Judges k e (Faulty f) =
     (o : DomainName) (earlier : List Entry) → LooksBack o earlier k
     → HasFault o earlier e (shown_fault f)
+
+-- an entry that was read is passed, whatever entries are known
+abbrev pub PassesEntry : Earlier → ScannedEntry → Earlier → Type 0
+PassesEntry old s new =
+    EntryScanned s → (o : DomainName) (earlier : List Entry) → LooksBack o earlier old
+    → Passed o earlier (placed s).entry new

@@ -1,5 +1,5 @@
 //! What an entry gives, or why it is faulty, whether or not earlier entries are.
-ghost use Rattle.std.specs.Prelude.{◌≡◌, ◌+◌, ◌≤◌, [], List, length, codes, IfOk, IfErr, IfSome, OnOk, Some, None, if◌then◌else◌};
+ghost use Rattle.std.specs.Prelude.{◌≡◌, ◌+◌, ◌^◌, ◌<◌, ◌≤◌, [], List, length, codes, IfOk, IfErr, IfSome, OnOk, Some, None, if◌then◌else◌};
 ghost use Rattle.std.specs.Option.{option_copied, option_map};
 ghost use Rattle.dns_spec.specs.Names.{DomainName, folded};
 ghost use Rattle.dns_spec.specs.TypeText.{text_in_lower_case};
@@ -58,7 +58,7 @@ impl Earlier {
         words: EntryWords<'_, '_>,
         room: &mut DataRoom,
     ) -> Result<Option<Record>, Blame>
-        requires few { length (words_left words) ≤ 16777217 }
+        requires few { length (words_left words) < 2 ^ 60 }
         requires known { IsKnown self.now }
         ensures ok { IfOk result (λ one. GivesKind self.now
             (kind_by_words is_blank_led (words_left words.entry)) (at_most_one one)) }
@@ -88,7 +88,7 @@ impl Earlier {
         words: EntryWords<'_, '_>,
         room: &mut DataRoom,
     ) -> Result<Option<Record>, Blame>
-        requires few { length (words_left words) ≤ 16777217 }
+        requires few { length (words_left words) < 2 ^ 60 }
         requires known { IsKnown self.now }
         ensures ok { IfOk result (λ one. GivesKind self.now
             (owned first.now (words_left words.entry)) (at_most_one one)) }
@@ -165,7 +165,7 @@ impl Earlier {
         room: &mut DataRoom,
     ) -> Result<Option<Record>, Blame>
         requires low { folded owner.now ≡ owner.now }
-        requires few { length (words_left words) ≤ 16777217 }
+        requires few { length (words_left words) < 2 ^ 60 }
         requires before { before ≤ 1 }
         requires known { IsKnown self.now }
         ensures ok { IfOk result (λ one. FieldsOwn self.now owner.now
@@ -289,12 +289,12 @@ fn data_blame(fault: RdataFault, words: usize) -> Blame
 
 // The number of words before the one at fault, from the words after the owner.
 fn words_before(blame: Blame, words: EntryWords<'_, '_>, given: &Fields<'_, '_>) -> usize
-    requires few { length (words_left words) ≤ 16777217 }
+    requires few { length (words_left words) < 2 ^ 60 }
     requires fields { given.now ≡ fields (words_left words) }
     requires blamed { blame.words ≤ 1 + length given.now.others }
     requires others { length given.now.others ≤ length (words_left words) }
     ensures value { result ≡ words_to (fault_of blame.code) (words_left words.entry) blame.words }
-    ensures bound { result ≤ 50000000 }
+    ensures bound { result < 2 ^ 62 }
 {
     match blame.code {
         ReadCode::BadTtl => before_ttl(words),

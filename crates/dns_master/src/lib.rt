@@ -9,6 +9,7 @@ mod fault;
 mod fields;
 mod gathers;
 mod judge;
+mod listing;
 mod passing;
 mod pieces;
 mod places;
@@ -23,5 +24,8 @@ mod words;
 
 pub use fault::{ReadCode, ReadFault};
 pub use gathers::Gathers;
+pub use listing::{FaultList, MOST_LISTED, list_text, read_octets};
+pub use places::Place;
 pub use reader::{MOST_RECORDS, read_into, read_zone};
 pub use record::Record;
+pub use scanned::EntryFault;

@@ -1,5 +1,5 @@
 //! What an entry of a file gives, or its fault with its place (RFC 1035 section 5).
-ghost use Rattle.std.specs.Prelude.{◌≡◌, ◌-◌, ◌≤◌, length, take, drop, map, nat_lt, None, IfOk};
+ghost use Rattle.std.specs.Prelude.{◌≡◌, ◌-◌, ◌≤◌, ◌<◌, ◌+◌, ◌^◌, length, take, drop, map, nat_lt, None, IfOk};
 ghost use Rattle.std.specs.List.{list_any};
 ghost use Rattle.std.specs.Option.{option_map};
 ghost use Rattle.dns_spec.specs.ZoneText.{extent_by, is_blank};
@@ -8,7 +8,7 @@ ghost use Rattle.dns_spec.specs.AllFaults.{first_place};
 ghost use Rattle.dns_master.specs.Codes.{fault_of};
 ghost use Rattle.dns_master.specs.JudgeForm.{IsKnown};
 ghost use Rattle.dns_master.specs.ScanForm.{shown_ending, shown_place};
-ghost use Rattle.dns_master.specs.ListingForm.{EntryScanned, Judges, placed, spot_by};
+ghost use Rattle.dns_master.specs.ListingForm.{EntryScanned, Judges, PassesEntry, placed, spot_by};
 ghost use Rattle.dns_master.specs.WordsLeft.{words_left};
 
 use crate::earlier::Earlier;
@@ -69,6 +69,15 @@ impl ScannedEntry<'_, '_> {
             Err(blame) if blame.code == ReadCode::NoMemory => Err(AllocError),
             Err(blame) => Ok(Judged::Faulty(self.blamed(blame))),
         }
+    }
+
+    /// Passes the entry.
+    pub(crate) fn pass(&self, earlier: &mut Earlier)
+        requires { earlier.old.count < 2 ^ 63 }
+        ensures passed { PassesEntry earlier.old self.now earlier.new }
+        ensures count { earlier.new.count ≤ earlier.old.count + 1 }
+    {
+        earlier.pass(self.is_blank_led(), all_kept(self.words));
     }
 
     fn is_blank_led(&self) -> bool

@@ -1,0 +1,174 @@
+-- The faults of the entries so far, and of the entries after them.
+use Rattle.dns_master.proofs.Common.{take, take_all, drop, drop_all, ◌≡◌, ℕ, zero, suc, ◌-◌, ◌<◌, Bool, true, false, false≢true, List, [], ◌∷◌, ◌++◌, append_assoc, append-nil, length, refl, sym, ap, ◌∙◌, subst, inl, inr, arith, Option, Some, None, Octets, DomainName, ResourceRecord}
+use Rattle.std.proofs.Common.{subst₂, min}
+use Rattle.dns_spec.specs.ZoneText.{most_octets}
+use Rattle.dns_master.proofs.GivenCount.{few_given}
+use Rattle.std.specs.Bool.{MatchBool}
+use Rattle.dns_spec.specs.EntryPlaces.{PlacedEntry, read_entry, text_after, entries_to_end}
+unfoldable use Rattle.dns_spec.specs.EntryPlaces.{entries_from}
+use Rattle.dns_spec.specs.AllFaults.{EntryFault, EntriesGive, HasFault, LookBack, is_last}
+use Rattle.dns_master.specs.EarlierForm.{LooksBack, Passed}
+use Rattle.dns_master.specs.ListingForm.{EntryOwn, entry_at}
+use Rattle.dns_master.specs.FaultListForm.{IsList, ListsOctets, ListsText, ListedSoFar}
+use Rattle.dns_master.specs.declared.earlier.Earlier.{Earlier}
+use Rattle.dns_master.specs.declared.listing.FaultList.{FaultList}
+
+-- the entries after the one that begins a text, if reading goes on
+abbrev pub entries_after : ℕ → Octets → Octets → Option Octets → List PlacedEntry
+entries_after k octets past rest =
+    elim rest [
+      | None ↦ []
+      | Some text ↦ entries_from k (length octets) past text
+    ]
+
+-- where reading goes on after the entry that begins a text
+abbrev pub rest_after : Octets → Octets → Option Octets
+rest_after octets text =
+    text_after (read_entry (length text) false (length octets - length text) text).1
+
+first_entry : (k : ℕ) (octets past text : Octets) → 0 < k
+    → entries_from k (length octets) past text
+    ≡ entry_at (length octets) past text
+    ∷ entries_after (k - 1) octets past (rest_after octets text)
+unfolding entries_from
+first_entry zero octets past text h = absurd (omega (arith, h))
+first_entry (suc k) octets past text h =
+    subst (λ n. entry_at (length octets) past text
+    ∷ entries_after k octets past (rest_after octets text)
+    ≡ entry_at (length octets) past text
+    ∷ entries_after n octets past (rest_after octets text)) (omega arith) refl
+
+module _ (o : DomainName) (octets past : Octets) (k : Earlier) (list : FaultList)
+    (before now : List ResourceRecord) where
+  pub first-entry : (left : ℕ) (text : Octets) → 0 < left
+      → ListedSoFar o octets past k (entries_from left (length octets) past text) list before now
+      → ListedSoFar o octets past k (entry_at (length octets) past text
+      ∷ entries_after (left - 1) octets past (rest_after octets text)) list before now
+  first-entry left text some =
+      subst (λ es. ListedSoFar o octets past k es list before now)
+      (first_entry left octets past text some)
+
+  -- reading goes on, or ends, after an entry
+  pub entries-left : (left : ℕ) (text : Octets) (rest : Option Octets)
+      → rest_after octets text ≡ rest
+      → ListedSoFar o octets past k (entries_after left octets past (rest_after octets text)) list
+      before now
+      → ListedSoFar o octets past k (entries_after left octets past rest) list before now
+  entries-left left text rest is =
+      subst (λ r. ListedSoFar o octets past k (entries_after left octets past r) list before now) is
+
+-- an entry without a fault
+pub own-listed : (o : DomainName) (octets past : Octets) (k k' : Earlier) (e : PlacedEntry)
+    (es : List PlacedEntry) (list : FaultList) (before now now' own : List ResourceRecord)
+    (so : ListedSoFar o octets past k (e ∷ es) list before now)
+    → EntryOwn o so.earlier e.entry own → Passed o so.earlier e.entry k' → now' ≡ now ++ own
+    → ListedSoFar o octets past k' es list before now'
+own-listed o octets past k k' e es list before now now' own so h p more = by_back p.back
+  where
+    by_back : LookBack o e.entry so.earlier p.later
+        → ListedSoFar o octets past k' es list before now'
+    by_back (inr (none, is)) = absurd (h.origin none)
+    by_back (inl (some, is)) =
+        record {
+          earlier = e.entry ∷ so.earlier;
+          known = subst (λ l. LooksBack o l k') is p.known;
+          found = so.found;
+          given = so.given ++ own;
+          listed = so.listed;
+          grown = more ∙ ap (λ x. x ++ own) so.grown ∙ append_assoc before so.given own;
+          goes_on = λ fs rs g.
+              subst (λ x. EntriesGive o [] (entries_to_end octets past) (so.found ++ fs) x)
+              (sym (append_assoc so.given own rs))
+              (so.goes_on fs (own ++ rs) (inr (own, h.given, (rs, refl, g))));
+        }
+
+-- an entry with a fault after which reading goes on
+pub fault-listed : (o : DomainName) (octets past : Octets) (k k' : Earlier) (e : PlacedEntry)
+    (es : List PlacedEntry) (list list' : FaultList) (before now : List ResourceRecord)
+    (f : EntryFault) (so : ListedSoFar o octets past k (e ∷ es) list before now)
+    → HasFault o so.earlier e f → is_last f.fault ≡ false → Passed o so.earlier e.entry k'
+    → IsList list' (so.found ++ f ∷ []) → ListedSoFar o octets past k' es list' before now
+fault-listed o octets past k k' e es list list' before now f so h on p longer =
+    record {
+      earlier = p.later;
+      known = p.known;
+      found = so.found ++ f ∷ [];
+      given = so.given;
+      listed = longer;
+      grown = so.grown;
+      goes_on = λ fs rs g.
+          subst (λ x. EntriesGive o [] (entries_to_end octets past) x (so.given ++ rs))
+          (sym (append_assoc so.found (f ∷ []) fs))
+          (so.goes_on (f ∷ fs) rs (inl (f, h, (fs, refl, rw on (p.later, p.back, g)))));
+    }
+
+-- an entry with a fault after which reading ends
+pub last-listed : (o : DomainName) (octets past : Octets) (k : Earlier) (e : PlacedEntry)
+    (es : List PlacedEntry) (list list' : FaultList) (before now : List ResourceRecord)
+    (f : EntryFault) (so : ListedSoFar o octets past k (e ∷ es) list before now)
+    → HasFault o so.earlier e f → is_last f.fault ≡ true
+    → IsList list' (so.found ++ f ∷ []) → ListsOctets o octets past list' before now
+last-listed o octets past k e es list list' before now f so h on longer =
+    record {
+      found = so.found ++ f ∷ [];
+      given = so.given ++ [];
+      are = so.goes_on (f ∷ []) [] (inl (f, h, ([], refl, rw on (refl, refl))));
+      listed = longer;
+      grown = so.grown ∙ ap (λ x. before ++ x) (sym (append-nil so.given));
+    }
+
+-- no entry is left
+pub all-listed : (o : DomainName) (octets past : Octets) (k : Earlier) (list : FaultList)
+    (before now : List ResourceRecord) → ListedSoFar o octets past k [] list before now
+    → ListsOctets o octets past list before now
+all-listed o octets past k list before now so =
+    record {
+      found = so.found;
+      given = so.given;
+      are = subst₂ (EntriesGive o [] (entries_to_end octets past)) (append-nil so.found)
+          (append-nil so.given) (so.goes_on [] [] (refl, refl));
+      listed = so.listed;
+      grown = so.grown;
+    }
+
+-- as many entries were taken as a text may have
+pub all-taken : (o : DomainName) (octets past : Octets) (k : Earlier) (list : FaultList)
+    (before now : List ResourceRecord) (left : ℕ) (text : Octets) → left ≡ 0
+    → ListedSoFar o octets past k (entries_from left (length octets) past text) list before now
+    → ListsOctets o octets past list before now
+unfolding entries_from
+all-taken o octets past k list before now zero text none so =
+    all-listed o octets past k list before now so
+all-taken o octets past k list before now (suc n) text none so = absurd (omega (arith, none))
+
+-- what was taken if reading goes on, and if it ends
+pub gone-on : (A B : Type 0) (b : Bool) → b ≡ true → MatchBool b A B → A
+gone-on A B true is h = h
+gone-on A B false is h = absurd (false≢true is)
+
+pub ended : (A B : Type 0) (b : Bool) → b ≡ false → MatchBool b A B → B
+ended A B true is h = absurd (false≢true (sym is))
+ended A B false is h = h
+
+-- a text is examined up to its limit, and one octet past it
+pub text-listed : (o : DomainName) (text octets past : Octets) (list : FaultList)
+    (before after : List ResourceRecord) → octets ≡ take most_octets text
+    → past ≡ take 1 (drop most_octets text) → ListsOctets o octets past list before after
+    → ListsText o text list before after
+text-listed o text octets past list before after is_octets is_past h =
+    let are = subst₂ (λ x y. EntriesGive o [] (entries_to_end x y) h.found h.given)
+    is_octets is_past h.are in
+    record {
+      found = h.found;
+      given = h.given;
+      are = are;
+      listed = h.listed;
+      grown = h.grown;
+      few = few_given o _ h.found h.given are;
+    }
+
+pub take_less : {A : Type 0} (m : ℕ) (xs : List A) → take (min (length xs) m) xs ≡ take m xs
+take_less m xs = grind (arith, take_all)
+
+pub drop_less : {A : Type 0} (m : ℕ) (xs : List A) → drop (min (length xs) m) xs ≡ drop m xs
+drop_less m xs = grind (arith, drop_all)

@@ -1,0 +1,52 @@
+use Rattle.dns_master.proofs.Common.{◌-◌, ◌∙◌, ap, arith, rules, Some, None}
+use Rattle.dns_spec.specs.EntryPlaces.{text_after}
+use Rattle.dns_master.proofs.ListingLoop.{first-entry, entries-left, all-listed, all-taken, gone-on, ended}
+use Rattle.dns_master.proofs.listing.list_octets.Goals as goal
+
+pub take-requires-clause-scanned : goal.take-requires-clause-scanned
+take-requires-clause-scanned g c = record {
+  scanned = search rules;
+  short = c.entries.invariant.short;
+  few = search rules;
+  words_few = let few = c.as_slice.type_inv.1 in omega (arith, few);
+}
+
+pub returns-then-not-branch : goal.returns-then-not-branch
+returns-then-not-branch g c =
+    ended _ _ c.in_ok-take.field-0 (search rules) (c.in_ok-take.ensures.taken _ _ _ _ _
+    (first-entry _ _ _ _ _ _ _ c.entries.left c.entries.rest.now c.entries-test.true
+    c.entries.invariant.listed))
+
+pub entries-preserved : goal.entries-preserved
+entries-preserved g c =
+    let left = c.entries.left in
+    let text = c.entries.rest.now in
+    let so = gone-on _ _ c.in_ok-take.field-0 (search rules) (c.in_ok-take.ensures.taken _ _ _ _ _
+    (first-entry _ _ _ _ _ _ _ left text c.entries-test.true c.entries.invariant.listed)) in
+    let short = c.in_ok-read.ensures.short in
+    let shorter = c.in-Some.ensures.short in
+    let within = c.entries.invariant.short in
+    let count = c.in_ok-take.ensures.count in
+    let counted = c.entries.invariant.count in
+    let some = c.entries-test.true in
+    record {
+      listed = entries-left _ _ _ _ _ _ _ (left - 1) text (Some c.in-Some.after.now)
+          (ap text_after c.in_ok-read.ensures.ending_is ∙ c.in-Some.ensures.value) so;
+      short = omega (arith, short, shorter, within);
+      count = omega (arith, count, counted, some);
+    }
+
+pub returns-in-None : goal.returns-in-None
+returns-in-None g c =
+    let left = c.entries.left in
+    let text = c.entries.rest.now in
+    let so = gone-on _ _ c.in_ok-take.field-0 (search rules) (c.in_ok-take.ensures.taken _ _ _ _ _
+    (first-entry _ _ _ _ _ _ _ left text c.entries-test.true c.entries.invariant.listed)) in
+    all-listed _ _ _ _ _ _ _ (entries-left _ _ _ _ _ _ _ (left - 1) text None
+    (ap text_after c.in_ok-read.ensures.ending_is ∙ c.in-None.ensures.value) so)
+
+pub returns : goal.returns
+returns g c =
+    let few = c.entries-test.false in
+    all-taken _ _ _ _ _ _ _ c.entries.left c.entries.rest.now (omega (arith, few))
+    c.entries.invariant.listed

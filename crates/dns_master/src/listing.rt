@@ -1,0 +1,196 @@
+//! All faults of a zone file, each with its place (RFC 1035 section 5).
+ghost use Rattle.std.specs.Prelude.{◌≡◌, ◌-◌, ◌^◌, ◌<◌, ◌≤◌, ◌++◌, ◌+◌, [], ◌∷◌, List, length, IfOk, OnOk};
+ghost use Rattle.dns_spec.specs.AllFaults as all;
+ghost use Rattle.dns_master.specs.Codes.{failures_after_read, fault_of};
+ghost use Rattle.dns_master.specs.ListingForm.{EntryScanned, shown_fault};
+ghost use Rattle.dns_master.specs.JudgeForm.{IsKnown, at_most_one};
+ghost use Rattle.dns_master.specs.EarlierForm.{LooksBack};
+ghost use Rattle.dns_master.specs.FaultListForm.{IsList, ListsOctets, ListsText, ReadsOctets, TakesEntry};
+
+use crate::earlier::Earlier;
+use crate::fault::{ReadCode, ReadFault};
+use crate::gathers::Gathers;
+use crate::places::{scan, text_after};
+use crate::record::Record;
+use crate::scanned::{EntryFault, Judged, ScannedEntry};
+use crate::source::{MOST_FILE_OCTETS, PIECE, append_piece};
+use dns_name::{Name, Tally};
+use dns_rdata::DataRoom;
+use std::alloc::{AllocError, Global};
+use std::io::Read;
+
+/// The most faults that are listed.
+pub const MOST_LISTED: usize = 1_000;
+
+/// The faults of a text, in order: at most 1,000, and whether there are more.
+#[derive(Drop)]
+pub struct FaultList {
+    /// The faults.
+    pub faults: Vec<EntryFault>,
+    /// Whether there are more.
+    pub has_more: bool,
+}
+
+impl FaultList {
+    fn none(alloc: Global) -> FaultList
+        ensures { IsList result [] }
+    {
+        FaultList {
+            faults: Vec::new(alloc),
+            has_more: false,
+        }
+    }
+
+    fn add(&mut self, fault: EntryFault) -> Result<(), AllocError>
+        ensures { OnOk result ((found : List all.EntryFault) → IsList self.old found
+            → IsList self.new (found ++ shown_fault fault ∷ [])) }
+    {
+        if self.faults.len() < MOST_LISTED {
+            self.faults.push(fault)?;
+        } else {
+            self.has_more = true;
+        }
+        Ok(())
+    }
+}
+
+/// Reads the octets of a file: all, or those up to one past its limit.
+pub fn read_octets<R: Read>(alloc: Global, source: &mut Tally<R>) -> Result<Vec<u8>, ReadFault>
+    requires { source.old.failures < 2 ^ 64 - 1 }
+    ensures ok { IfOk result (λ text. ReadsOctets (R.remaining source.old.device)
+        (R.remaining source.new.device) text.items) }
+    ensures counted { source.new.failures ≡ failures_after_read source.old.failures result }
+{
+    let mut text = Vec::new(alloc);
+    let mut piece = [0; PIECE];
+    let mut left = MOST_FILE_OCTETS + 1;
+    'pieces: while left > 0 {
+        let before = text.len();
+        if !append_piece(source, PIECE.min(left), &mut piece, &mut text)? {
+            break;
+        }
+        left -= text.len() - before;
+    }
+    Ok(text)
+}
+
+/// Lists the faults of the text of a file, and adds the records of the entries without a fault to
+/// the caller's collection.
+pub fn list_text<G: Gathers>(
+    alloc: Global,
+    origin: &Name,
+    text: &[u8],
+    found: &mut G,
+) -> Result<FaultList, AllocError>
+    ensures { IfOk result (λ list. ListsText origin.now text.now list (G.gathered found.old)
+        (G.gathered found.new)) }
+{
+    let (octets, past) = text.split_at(text.len().min(MOST_FILE_OCTETS));
+    let (past, _) = past.split_at(past.len().min(1));
+    list_octets(alloc, origin, octets, past, found)
+}
+
+// Lists the faults of the octets that are examined; `past` is the octet after them, if there is
+// one.
+fn list_octets<G: Gathers>(
+    alloc: Global,
+    origin: &Name,
+    octets: &[u8],
+    past: &[u8],
+    found: &mut G,
+) -> Result<FaultList, AllocError>
+    requires { length octets.now ≤ 16777216 }
+    ensures { IfOk result (λ list. ListsOctets origin.now octets.now past.now list
+        (G.gathered found.old) (G.gathered found.new)) }
+{
+    let mut listing = Listing::none(alloc, origin);
+    let mut room = DataRoom::new(alloc);
+    let (mut words, mut places) = (Vec::new(alloc), Vec::new(alloc));
+    let mut rest = octets;
+    let mut left = octets.len() + 1;
+    'entries: while left > 0 {
+        left -= 1;
+        let read = scan(rest, octets.len() - rest.len(), &mut words, &mut places)?;
+        let entry = ScannedEntry {
+            octets,
+            past,
+            rest,
+            words: words.as_slice(),
+            places: places.as_slice(),
+            read,
+        };
+        if !listing.take(&entry, &mut room, found)? {
+            return Ok(listing.list);
+        }
+        match text_after(read.ending) {
+            Some(after) => rest = after,
+            None => return Ok(listing.list),
+        }
+    }
+    Ok(listing.list)
+}
+
+// The faults so far, and what later entries need of the entries so far.
+#[derive(Drop)]
+struct Listing {
+    list: FaultList,
+    earlier: Earlier,
+}
+
+impl Listing {
+    fn none(alloc: Global, origin: &Name) -> Listing
+        ensures list { IsList result.list [] }
+        ensures known { LooksBack origin.now [] result.earlier }
+        ensures none { result.earlier.count ≡ 0 }
+    {
+        Listing {
+            list: FaultList::none(alloc),
+            earlier: Earlier::none(origin),
+        }
+    }
+
+    // Takes an entry: adds its record to the collection, or its fault to the list. Returns whether
+    // reading goes on.
+    fn take<G: Gathers>(
+        &mut self,
+        entry: &ScannedEntry<'_, '_>,
+        room: &mut DataRoom,
+        found: &mut G,
+    ) -> Result<bool, AllocError>
+        requires scanned { EntryScanned entry.now }
+        requires known { IsKnown self.old.earlier }
+        requires count { self.old.earlier.count < 2 ^ 63 }
+        ensures taken { IfOk result (λ goes_on. TakesEntry self.old entry.now
+            (G.gathered found.old) self.new (G.gathered found.new) goes_on) }
+        ensures count { IfOk result (λ _.
+            self.new.earlier.count ≤ self.old.earlier.count + 1) }
+    {
+        match entry.judge(&self.earlier, room)? {
+            Judged::Gives(one) => add_given(one, found)?,
+            Judged::Faulty(fault) => {
+                self.list.add(fault)?;
+                if ends_list(fault.code) {
+                    return Ok(false);
+                }
+            }
+        }
+        entry.pass(&mut self.earlier);
+        Ok(true)
+    }
+}
+
+// Whether the list ends with a fault of this code.
+fn ends_list(code: ReadCode) -> bool
+    ensures { result ≡ all.is_last (fault_of code) }
+{
+    code.number() >= 14
+}
+
+fn add_given<G: Gathers>(one: Option<Record>, found: &mut G) -> Result<(), AllocError>
+    ensures { OnOk result (G.gathered found.new ≡ G.gathered found.old ++ at_most_one one) }
+{
+    if let Some(record) = one {
+        found.add(&record)?;
+    }
+    Ok(())
+}
