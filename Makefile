@@ -18,9 +18,14 @@ DOCUMENTS = $(foreach name,OPERATE SCALE CODES IMPORT ZONEFILE PROVED PERFORMANC
 COMPLETIONS = $(DESTDIR)$(PREFIX)/share/bash-completion/completions
 PYTEST = /usr/bin/python3 -m pytest -q
 
-# Proves and builds the programs, and shows what they do.
+# Proves and builds the programs, and shows a zone that passes, the faults of a faulty one, and a question with its reply.
+QUERY = 12340000000100000000000003777777076578616d706c6503636f6d0000010001
+run: export PATH := $(CURDIR)/crates/zonecheck/out:$(CURDIR)/crates/zoneserve/out:$(CURDIR)/crates/dnsmsg/out:$(CURDIR)/bin:$(PATH)
 run: built
-	packaging/show
+	cd examples && zonecheck example.com company.zone
+	cd examples && zonelint example faulty.zone || true
+	cd examples && echo $(QUERY) | zoneserve once example.com company.zone | dnsmsg
+	@echo 'Next: make install, and docs/OPERATE.md to serve a zone, or zonelint on your own zones (docs/CODES.md).'
 
 # Proves and builds the programs if one is missing or older than a source.
 built: $(PROGRAMS)
