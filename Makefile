@@ -1,4 +1,4 @@
-.PHONY: run programs built install uninstall clean package test check check-all operate edits
+.PHONY: run programs built docs install uninstall clean package test check check-all operate edits
 
 PREFIX ?= /usr/local
 NAMES = zonecheck zoneserve dnsmsg zonesocket
@@ -36,16 +36,32 @@ $(PROGRAMS) &: $(SOURCES)
 programs:
 	packaging/build $(NAMES)
 
+# Makes out/DEFINITIONS.md: the definitions that all contracts use, a section for each file in the order of Lib.antt. A file's
+# first comment is the section's text; the definitions follow the first empty line.
+docs: out/DEFINITIONS.md
+
+SPECS = crates/dns_spec/specs
+out/DEFINITIONS.md: $(wildcard $(SPECS)/*.antt)
+	mkdir -p out
+	echo '# Definitions' >$@
+	for name in $$(sed -n 's/^pub mod //p' $(SPECS)/Lib.antt); do \
+	    printf '\n## %s\n\n' "$$name"; \
+	    sed -n '/^--/!q; s/^-- *//p' "$(SPECS)/$$name.antt"; \
+	    printf '\n```\n'; \
+	    sed '1,/^$$/d' "$(SPECS)/$$name.antt"; \
+	    printf '```\n'; \
+	done >>$@
+
 # Installs everything under PREFIX, or under DESTDIR followed by PREFIX. The examples and the settings in
 # contrib/ are in share/mitrehyssop, and the folder of the documents only links to them: small systems may remove that folder.
-install: built
+install: built docs
 	install -d "$(DESTDIR)$(PREFIX)/bin" "$(DESTDIR)$(PREFIX)/share/man/man1" "$(DOC)/docs/plots" "$(SHARE)/examples" "$(SHARE)/contrib" "$(COMPLETIONS)"
 	install -d "$(LIBEXEC)" "$(UNITS)"
 	install -m 755 $(PROGRAMS) $(SCRIPTS) "$(DESTDIR)$(PREFIX)/bin"
 	install -m 644 $(MODULES) "$(SHARE)"
 	install -m 644 $(PAGES) "$(DESTDIR)$(PREFIX)/share/man/man1"
 	install -m 644 README.md CHANGELOG.md SECURITY.md VERSION LICENSE-MIT LICENSE-APACHE "$(DOC)"
-	install -m 644 $(DOCUMENTS) "$(DOC)/docs"
+	install -m 644 $(DOCUMENTS) out/DEFINITIONS.md "$(DOC)/docs"
 	install -m 644 docs/plots/*.svg "$(DOC)/docs/plots"
 	install -m 755 libexec/* "$(LIBEXEC)"
 	cp examples/* "$(SHARE)/examples"
