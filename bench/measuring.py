@@ -1,4 +1,4 @@
-"""Measures runs of programs: processor time, memory, instructions."""
+"""Measures runs of programs: processor time, memory, instructions. Prints the tables of a bench."""
 import contextlib
 import glob
 import os
@@ -9,6 +9,7 @@ import tempfile
 from pathlib import Path
 
 TOP = Path(__file__).resolve().parent.parent
+sys.path.append(str(TOP / "tests"))  # for `servers`, which benches import after this module
 # The seconds after which a run is ended.
 SECONDS = 600
 # callgrind counts each octet of `rep movsb` as an instruction, so the C library is set to avoid it.
@@ -29,9 +30,14 @@ def need(*programs):
             sys.exit(f"{name} is missing")
 
 
-def mixed_zone():
-    """A zone at example. with 100,000 records of seven types, in 4.6 MB."""
-    return subprocess.run([TOP / "bench" / "mixed-zone"], capture_output=True, check=True).stdout
+def print_tables(tables, *programs):
+    """Prints the tables named by the arguments, or all of them: each is a function of an empty folder. `programs` are
+    needed. The status is 1 if a table returns a true value."""
+    if unknown := set(sys.argv[1:]) - set(tables):
+        sys.exit(f"{sys.argv[0]}: there is no table {unknown.pop()}, but {', '.join(tables)}")
+    need("valgrind", "/usr/bin/time", *programs)
+    with tempfile.TemporaryDirectory() as folder:
+        sys.exit(any([tables[name](folder) for name in sys.argv[1:] or tables]))
 
 
 def taken(words, given):

@@ -1,6 +1,7 @@
-"""Servers, sockets and queries, for tests and benches."""
+"""Servers, sockets, queries and a large zone, for tests and benches."""
 import contextlib
 import os
+import re
 import resource
 import socket
 import struct
@@ -12,7 +13,22 @@ from pathlib import Path
 import dns.message
 
 TOP = Path(__file__).resolve().parent.parent
-LIBEXEC = TOP / "libexec"
+LIBEXEC, DATA = TOP / "libexec", TOP / "tests" / "data"
+
+
+def mixed_zone(count=100_000):
+    """A valid zone at example. with this number of records, of seven types: 100,000 have 4.6 MB."""
+    def record(at):
+        host = f"host{at:06}"
+        return [f"{host} A 192.0.{at % 250}.{at * 7 % 250}",
+                f"{host} 7200 IN AAAA 2001:db8::{at % 65535:x}:{at * 3 % 65535:x}",
+                f"{host} MX 10 mail{at % 100}.other.example.net.",
+                f'{host} TXT "v=spf1 include:_spf.example.net ~all" ; a comment',
+                f"{host}.example. CNAME host{at - 4:06}",
+                f"_sip._tcp.{host} SRV 10 20 5060 sip{at % 9}.other.example.net.",
+                f"sub{at:06} NS ns1.sub{at:06}.other.example.net."][at % 7]
+    first = ["$TTL 3600", "@ SOA ns h 1 2 3 4 5", "@ NS ns", "ns A 192.0.2.1"]
+    return "\n".join([*first, *map(record, range(count - 3)), ""]).encode()
 
 
 def query(name, rtype="A", number=0x1234):
@@ -24,7 +40,7 @@ def query(name, rtype="A", number=0x1234):
 
 def questions():
     """The rows of tests/data/questions: the name and type, the line of status and flags, and the records, sorted."""
-    text = (TOP / "tests" / "data" / "questions").read_text()
+    text = (DATA / "questions").read_text()
     blocks = [[line for line in block.split("\n") if line and not line.startswith("#")]
               for block in text.split("\n\n")]
     return [(block[0], block[1], sorted(map(str.lower, block[2:]))) for block in blocks if block]
@@ -201,6 +217,54 @@ class Serving:
             with self.run.stderr as errors:
                 self.said = errors.read().decode().split()
         return self.status, self.said
+
+
+# Other servers and resolvers, by their programs: the settings in tests/data, the command, and the one that reloads the
+# zone, if any. The words in capitals stand for what `prepared` gets.
+OTHERS = {
+    "nsd": ("nsd.conf", "nsd -d -c CONF", "nsd-control -c CONF reload ORIGIN"),
+    "knotd": ("knot.conf", "knotd -c CONF", "knotc -b -s FOLDER/knot.sock zone-reload ORIGIN"),
+    "named": ("named.conf", "named -f -4 -n WORKERS -c CONF", ""),
+    "pdns_server": ("powerdns.conf", "pdns_server --no-config --launch=bind --bind-config=CONF --local-address=HERE "
+                    "--local-port=PORT --socket-dir=FOLDER --daemon=no --guardian=no --security-poll-suffix= "
+                    "--receiver-threads=WORKERS", ""),
+    "unbound": ("unbound.conf", "unbound -d -c CONF", ""),
+    "pdns_recursor": ("recursor.conf", "pdns_recursor --config-dir=FOLDER", ""),
+    "kresd": ("kresd.conf", "kresd -n -q -c CONF FOLDER", ""),
+}
+RIVALS = ["nsd", "knotd", "named"]
+
+
+def filled(text, **values):
+    """The text with each of these words, in capitals there, replaced by its value."""
+    return re.sub("|".join(values).upper(), lambda word: str(values[word[0].lower()]), text)
+
+
+def prepared(name, folder, address=("", ""), workers=1, origin="example", **more):
+    """Writes the settings of another server into a folder. Returns its command, and the one that reloads its zone."""
+    file, words, reload = OTHERS[name]
+    conf = Path(folder, file)
+    values = {"here": address[0], "port": address[1], "folder": folder, "workers": workers, "origin": origin, **more}
+    conf.write_text(filled((DATA / file).read_text(), **values))
+    return [filled(command, conf=conf, **values).split() for command in (words, reload)]
+
+
+@contextlib.contextmanager
+def other(name, folder, **values):
+    """Runs another server during the body, without query logs. Its `reload` is None if there is no command for that."""
+    words, reload = prepared(name, folder, **values)
+    quiet = dict.fromkeys(("stdin", "stdout", "stderr"), subprocess.DEVNULL)
+    server = subprocess.Popen(words, start_new_session=True, cwd=folder, **quiet)
+    server.reload = (lambda: subprocess.run(reload, **quiet)) if reload else None
+    try:
+        yield server
+    finally:
+        server.terminate()
+        with contextlib.suppress(subprocess.TimeoutExpired):
+            server.wait(10)
+        with contextlib.suppress(ProcessLookupError):
+            os.killpg(server.pid, 9)
+        time.sleep(0.5)
 
 
 class Steady:

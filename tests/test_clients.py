@@ -15,11 +15,11 @@ import time
 from pathlib import Path
 
 import pytest
-from servers import LIBEXEC, TOP, Serving, asking, asks, bound, connected, frame_of, framed, query, questions, until
+from servers import (DATA, LIBEXEC, TOP, Serving, asking, asks, bound, connected, frame_of, framed, other, query,
+                     questions, until)
 
 HERE, PORT, SOCKET_PORT, BELOW = "127.0.0.1", 5399, 5398, "127.0.0.53"
 ADDRESS = (HERE, PORT)
-DATA = TOP / "tests" / "data"
 ZONE = DATA / "served.zone"
 QUESTION = query("www.example")
 
@@ -186,25 +186,9 @@ def test_dnsperf_loses_nothing(programs, tmp_path):
             assert re.search(r"Queries lost:\s+0 ", said), said
 
 
-# For each resolver, its settings in tests/data, and its arguments.
-RESOLVERS = {"unbound": ("unbound.conf", "-d -c FOLDER/unbound.conf"),
-             "pdns_recursor": ("recursor.conf", "--config-dir=FOLDER"),
-             "kresd": ("kresd.conf", "-n -q -c FOLDER/kresd.conf FOLDER")}
-
-
-@contextlib.contextmanager
 def resolving(name, folder, own, port):
     """Runs a resolver at port `own`, which asks the server at `port` about names in the zone."""
-    file, words = RESOLVERS[name]
-    text = (DATA / file).read_text().replace("FOLDER", str(folder)).replace("PORT", str(port)).replace("OWN", str(own))
-    (folder / file).write_text(text)
-    words = [name, *words.replace("FOLDER", str(folder)).split()]
-    run = subprocess.Popen(words, cwd=folder, stdout=subprocess.DEVNULL, stderr=subprocess.DEVNULL)
-    try:
-        yield run
-    finally:
-        run.kill()
-        run.wait()
+    return other(name, folder, address=(HERE, port), own=own)
 
 
 def dig(port, *words):
@@ -213,7 +197,8 @@ def dig(port, *words):
 
 
 @pytest.mark.slow
-@pytest.mark.parametrize("name", [pytest.param(name, marks=pytest.mark.peers(name, "dig")) for name in RESOLVERS])
+@pytest.mark.parametrize("name", [pytest.param(name, marks=pytest.mark.peers(name, "dig"))
+                                  for name in ("unbound", "pdns_recursor", "kresd")])
 def test_a_resolver(programs, tmp_path, name):
     """A resolver asks again over TCP, and keeps its connection open: others are served at once meanwhile."""
     zone = tmp_path / "zone"

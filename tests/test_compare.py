@@ -10,7 +10,6 @@ import re
 import signal
 import socket
 import subprocess
-import sys
 import threading
 import time
 import types
@@ -24,13 +23,10 @@ import dns.rdatatype
 import dns.rrset
 import pytest
 import servers
-from servers import TOP, Serving, until
+from servers import DATA, RIVALS, TOP, Serving, until
 from test_hostile import Server
 
-sys.path.insert(0, str(TOP / "bench"))
-import rivals  # noqa: E402
-
-COMPARE, DATA = TOP / "bin" / "zonecompare", TOP / "tests" / "data"
+COMPARE = TOP / "bin" / "zonecompare"
 AA, TC, RA = dns.flags.AA, dns.flags.TC, dns.flags.RA
 ZONE = (DATA / "compare.zone").read_text()
 # A chain of 18 aliases, of which the proved reply follows 16; and a name of 251 octets, below which no name fits.
@@ -609,27 +605,24 @@ def test_zoneserve(programs, tmp_path):
 # ---- other servers
 
 OTHER = ("127.0.0.1", 5389)
-ROWS = [pytest.param(row, id=row[0], marks=[pytest.mark.slow, pytest.mark.peers(row[1])])
-        for row in [*rivals.SERVERS, rivals.POWERDNS_SERVER]]
 
 
 @contextlib.contextmanager
-def running(row, folder, file, origin="example"):
+def running(name, folder, file, origin="example"):
     """Runs another server until the end of the body, which begins when it answers for the zone."""
     def has_soa():
         with contextlib.suppress(dns.exception.Timeout, OSError):
             query = dns.message.make_query(origin, "SOA", flags=0)
             return dns.query.udp(query, OTHER[0], 1, OTHER[1]).answer
 
-    with rivals.serving(row, OTHER, folder, file, 1, origin):
+    with servers.other(name, folder, address=OTHER, zone=file, origin=origin):
         until(has_soa, 20)
         yield
 
 
 def canonical(folder, origin, file):
-    text = subprocess.run([TOP / "bin" / "zoneimport", origin, file], capture_output=True, check=True).stdout
-    text = subprocess.run(["zonecheck", "--print", origin, "/dev/stdin"], input=text, capture_output=True,
-                          check=True).stdout
+    text = servers.run(TOP / "bin" / "zoneimport", origin, file, check=True, text=False).stdout
+    text = servers.run("zonecheck", "--print", origin, "/dev/stdin", input=text, check=True, text=False).stdout
     (folder / "served").write_bytes(text)
     return folder / "served"
 
@@ -644,13 +637,15 @@ LISTED = {tuple(row[:3]): row[3] for row in PEERS["listed"]}
 
 @pytest.mark.parametrize("options", ["--all-types", "--no-edns"])
 @pytest.mark.parametrize("origin, name, bind", PEERS["zones"], ids=[name for _, name, _ in PEERS["zones"]])
-@pytest.mark.parametrize("row", ROWS)
-def test_others_differ_only_as_listed(programs, tmp_path, row, origin, name, bind, options):
+@pytest.mark.slow
+@pytest.mark.parametrize("server", [pytest.param(name, marks=pytest.mark.peers(name))
+                                    for name in [*RIVALS, "pdns_server"]])
+def test_others_differ_only_as_listed(programs, tmp_path, server, origin, name, bind, options):
     file = TOP / name
-    served = file if bind and row[0] == "named" else canonical(tmp_path, origin, file)
+    served = file if bind and server == "named" else canonical(tmp_path, origin, file)
     words = [options, *["--bind"] * bind, origin, file, f"{OTHER[0]}:{OTHER[1]}"]
-    with running(row, tmp_path, served, origin):
+    with running(server, tmp_path, served, origin):
         done = servers.run(COMPARE, "--rate", "0", "--format", "json", *words)
     assert done.returncode in (0, 1), done.stderr
     for kind, one in found_by(done).items():
-        assert one["replies"] <= LISTED.get((row[0], file.name, kind), 0), kind
+        assert one["replies"] <= LISTED.get((server, file.name, kind), 0), kind

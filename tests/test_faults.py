@@ -14,7 +14,7 @@ import time
 
 import dns.message
 import pytest
-from servers import TOP, Serving, asking, bound, connected, framed, query, until
+from servers import TOP, Serving, asking, bound, connected, framed, mixed_zone, query, until
 
 ADDRESS = ("127.0.0.1", 5396)
 QUERY = query("www.example")
@@ -59,8 +59,7 @@ CASES = {
 @pytest.fixture(scope="module")
 def folder(tmp_path_factory):
     folder = tmp_path_factory.mktemp("faults")
-    mixed = subprocess.run([TOP / "bench" / "mixed-zone"], capture_output=True, check=True).stdout
-    (folder / "some.zone").write_bytes(b"\n".join([*mixed.split(b"\n")[:2000], b""]))
+    (folder / "some.zone").write_bytes(mixed_zone(1_999))
     return folder
 
 

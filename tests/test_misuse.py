@@ -7,9 +7,9 @@ import shutil
 import subprocess
 
 import pytest
-from servers import TOP, run
+from servers import DATA, TOP, mixed_zone, run
 
-EXAMPLES, DATA = TOP / "examples", TOP / "tests" / "data"
+EXAMPLES = TOP / "examples"
 # For each program, its calls in examples/, in which FOLDER is a folder with faulty zones: the words, the status, and
 # what is written to each stream. zonesocket gets no socket.
 CALLS = json.loads((DATA / "calls.json").read_text())
@@ -40,7 +40,7 @@ def test_an_output_that_fails(programs, tmp_path, option, device):
     zone = EXAMPLES / "example.zone"
     if "|" in device:
         option, zone = "--print", tmp_path / "mixed.zone"
-        zone.write_bytes(subprocess.run([TOP / "bench" / "mixed-zone"], capture_output=True, check=True).stdout)
+        zone.write_bytes(mixed_zone())
     done = run("bash", "-c", f"zonecheck {option} example {zone} {device}")
     assert (done.returncode, done.stderr) == (2, "P1\n")
 
