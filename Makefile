@@ -94,14 +94,14 @@ test:
 check: built
 	$(PYTEST) -m 'not slow' tests
 
-# All tests. Those that need root, or a program that is not installed, are skipped with the reason.
+# All tests but `edits`. Those that need root, or a program that is not installed, are skipped with the reason.
 check-all: built
-	$(PYTEST) -rs tests
+	$(PYTEST) -rs --deselect tests/test_misuse.py::test_edits tests
 
 # Makes the package, checks it with lintian, and runs the commands of docs/OPERATE.md and docs/SCALE.md in a container with systemd.
 operate: built
 	tests/try-operate "$$(packaging/package)"
 
-# Tries the wrong edits that the gate leaves out: the check has to refuse each.
+# Tries the wrong edits that the gate leaves out: the check has to refuse each. Those of a crate: make edits CRATE=NAME
 edits:
-	tests/edits
+	$(PYTEST) -k 'edits and $(or $(CRATE),test)' tests/test_misuse.py

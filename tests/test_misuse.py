@@ -10,6 +10,12 @@ import pytest
 from servers import DATA, TOP, mixed_zone, run
 
 EXAMPLES = TOP / "examples"
+
+
+def needs_rt(test):
+    return pytest.mark.slow(pytest.mark.peers("rt")(test))
+
+
 # For each program, its calls in examples/, in which FOLDER is a folder with faulty zones: the words, the status, and
 # what is written to each stream. zonesocket gets no socket.
 CALLS = json.loads((DATA / "calls.json").read_text())
@@ -94,8 +100,7 @@ def errors_of(crate):
     return set() if done.returncode == 0 else None if begins or not errors else errors
 
 
-@pytest.mark.slow
-@pytest.mark.peers("rt")
+@needs_rt
 @pytest.mark.parametrize("error, expression",
                          [("", "if named { own.visits() } else { steps.visits() }"), *MISUSE["caller"]])
 def test_misuse_of_a_walk(zone_library, error, expression):
@@ -104,8 +109,7 @@ def test_misuse_of_a_walk(zone_library, error, expression):
     assert errors_of(zone_library / "caller") == ({error} if error else set())
 
 
-@pytest.mark.slow
-@pytest.mark.peers("rt")
+@needs_rt
 @pytest.mark.parametrize("file, expression, line", [
     *MISUSE["within"], *(pytest.param(*row, marks=OPEN) for row in MISUSE["open"])])
 def test_misuse_of_a_tree(zone_library, file, expression, line):
@@ -119,20 +123,41 @@ def test_misuse_of_a_tree(zone_library, file, expression, line):
         source.write_text(text)
 
 
-# ---- bodies that wrongly report that memory is missing
+# ---- edits and bodies that must be refused
 
-# No contract rejects such a body, because a contract can't state when memory is available. So they can't be must-fail
-# edits. For each: the file, a text that occurs there once, the text that replaces it, the crate of tests, the modules
-# of tests that are run (without proofs), and the test that must fail.
-@pytest.mark.slow
-@pytest.mark.peers("rt")
+def copied(folder, *left_out):
+    """A copy of the crates in a folder, without files of these names."""
+    for other in ("crates.txt", "HANDLES"):
+        shutil.copy(TOP / other, folder)
+    return shutil.copytree(TOP / "crates", folder / "crates", ignore=shutil.ignore_patterns(*left_out))
+
+
+@pytest.fixture(scope="module")
+def unedited(tmp_path_factory):
+    return copied(tmp_path_factory.mktemp("edits"), "out", "must-fail")
+
+
+@needs_rt
+@pytest.mark.parametrize("crate", sorted(folder.parent.name for folder in TOP.glob("crates/*/edits")))
+def test_edits(unedited, crate):
+    """The check refuses each edit of crates/CRATE/edits, which the gate leaves out, like those of
+    must-fail. Results that rt has kept on this machine are reused."""
+    edits = (unedited / crate / "edits").rename(unedited / crate / "must-fail")
+    done = run("rt", "must-fail", crate, cwd=unedited.parent, timeout=36_000)
+    said = done.stdout + done.stderr
+    refused = re.findall(r"^(?:rt: )?must-fail [^:]*: refused, as it must be", said, re.M)
+    assert len(refused) == len(list(edits.iterdir())), said
+
+
+# No contract rejects a body that wrongly reports that memory is missing, because a contract can't
+# state when memory is available. So such bodies can't be must-fail edits. For each: the file, a text
+# that occurs there once, the text that replaces it, the crate of tests, the modules of tests that are
+# run (without proofs), and the test that must fail.
+@needs_rt
 @pytest.mark.parametrize("file, old, new, tests, modules, test", MISUSE["bodies"],
                          ids=[body[-1] for body in MISUSE["bodies"]])
 def test_a_wrong_body_is_noticed(tmp_path, file, old, new, tests, modules, test):
-    crates = tmp_path / "crates"
-    shutil.copytree(TOP / "crates", crates, ignore=shutil.ignore_patterns("out"))
-    for other in ("crates.txt", "HANDLES"):
-        shutil.copy(TOP / other, tmp_path)
+    crates = copied(tmp_path, "out")
     text = (crates / file).read_text()
     assert text.count(old) == 1
     (crates / file).write_text(text.replace(old, new))
