@@ -4,7 +4,6 @@ import os
 import re
 import resource
 import socket
-import struct
 import subprocess
 import sys
 import time
@@ -61,17 +60,17 @@ def serial_of(reply, place):
 
 def framed(message):
     """A message after its length, as it is sent over TCP."""
-    return struct.pack(">H", len(message)) + message
+    return len(message).to_bytes(2, "big") + message
 
 
 def frame_of(client):
     """The next message of a stream socket, or None at its end."""
-    octets = b""
-    while len(octets) < 2 or len(octets) < 2 + struct.unpack(">H", octets[:2])[0]:
-        piece = client.recv(2 if len(octets) < 2 else 2 + struct.unpack(">H", octets[:2])[0] - len(octets))
-        if not piece:
+    octets, size = b"", 2
+    while len(octets) < size:
+        if not (piece := client.recv(size - len(octets))):
             return None
         octets += piece
+        size = 2 + int.from_bytes(octets[:2], "big") if len(octets) > 1 else 2
     return octets[2:]
 
 
@@ -310,6 +309,15 @@ def asks(client, message):
     client.sendall(framed(message))
     reply = frame_of(client)
     return reply is not None and reply[:2] == message[:2]
+
+
+def serial_at(address, origin):
+    """The serial of the zone that a server replies with over UDP, or None."""
+    message = query(origin, "SOA")
+    with contextlib.suppress(OSError), asking(address, 0.5) as client:
+        client.send(message)
+        reply = client.recv(512)
+        return serial_of(reply, len(message)) if reply[7] else None
 
 
 def is_answered(address, message):

@@ -1,7 +1,6 @@
 """Common clients, resolvers and many questions to zoneserve and zonesocket, over real sockets; and many connections to
 zonesocket, whose replies must be those of `zoneserve once --tcp`: streams cut in every way, slow readers, half-closes,
 limits, and ends."""
-import asyncio
 import contextlib
 import os
 import random
@@ -11,12 +10,14 @@ import signal
 import socket
 import struct
 import subprocess
+import threading
 import time
+from concurrent.futures import ThreadPoolExecutor
 from pathlib import Path
 
 import pytest
 from servers import (DATA, LIBEXEC, TOP, Serving, asking, asks, bound, connected, frame_of, framed, other, query,
-                     questions, until)
+                     questions, run, until)
 
 HERE, PORT, SOCKET_PORT, BELOW = "127.0.0.1", 5399, 5398, "127.0.0.53"
 ADDRESS = (HERE, PORT)
@@ -76,34 +77,35 @@ def said_by(text):
     return f"{status[1].replace('NOTIMPL', 'NOTIMP')} {flags[1].strip().lower()}", sorted(records)
 
 
+def ask_by(client, *words, port=PORT):
+    return run(client, f"@{HERE}", "-p", port, *words, timeout=60).stdout
+
+
+WITHOUT_EDNS = ["+norec", "+noedns", "+tcp"]
+
+
 @pytest.mark.parametrize("client, words", [
     pytest.param("dig", ["+norec", "+noedns", "+nocookie", "+ignore"], marks=pytest.mark.peers("dig")),
     pytest.param("kdig", ["+norec", "+noedns", "+ignore"], marks=pytest.mark.peers("kdig"))])
-@pytest.mark.parametrize("transport", ["udp", "tcp"])
-def test_a_client(programs, client, words, transport):
+@pytest.mark.parametrize("transport, over", [("udp", "+notcp"), ("tcp", "+tcp")])
+def test_a_client(programs, client, words, transport, over):
     with zoneserve(programs, transport):
         for question, first, records in questions():
-            asked = [client, f"@{HERE}", "-p", str(PORT), *words, f"+{transport if transport == 'tcp' else 'notcp'}",
-                     *question.split()]
-            run = subprocess.run(asked, capture_output=True, text=True, timeout=20)
-            assert said_by(run.stdout) == (first, records), " ".join(asked)
+            assert said_by(ask_by(client, *words, over, *question.split())) == (first, records), question
 
 
 @pytest.mark.peers("dig")
 def test_questions_of_dig(programs):
     """Several questions on one connection are one turn; a query with EDNS gets FORMERR, and dig says how to ask
     without."""
-    words = ["+norec", "+noedns", "+tcp", "+keepopen", "+short"]
     names = ["www.example.", "mail.example.", "host.wild.example."]
-    asked = ["dig", f"@{HERE}", "-p", str(PORT), *[word for name in names for word in [*words, name, "A"]]]
+    words = [word for name in names for word in [*WITHOUT_EDNS, "+keepopen", "+short", name, "A"]]
     with zoneserve(programs, "tcp", turns=1) as server:
-        run = subprocess.run(asked, capture_output=True, text=True, timeout=20)
-        assert run.stdout.split() == ["192.0.2.80", "192.0.2.25", "192.0.2.7"]
+        assert ask_by("dig", *words).split() == ["192.0.2.80", "192.0.2.25", "192.0.2.7"]
         assert server.run.wait(timeout=5) == 0
     with zoneserve(programs, "udp"):
-        run = subprocess.run(["dig", f"@{HERE}", "-p", str(PORT), "www.example.", "A"], capture_output=True, text=True,
-                             timeout=20)
-        assert "status: FORMERR" in run.stdout and "+noedns" in run.stdout
+        said = ask_by("dig", "www.example.", "A")
+        assert "status: FORMERR" in said and "+noedns" in said
 
 
 def test_truncation(programs):
@@ -181,8 +183,7 @@ def test_dnsperf_loses_nothing(programs, tmp_path):
     with zoneserve(programs, "udp"), zonesocket(programs):
         for words in [["-p", str(PORT)],
                       *(["-p", str(SOCKET_PORT), "-m", "tcp", "-c", str(count)] for count in (1, 100, 250))]:
-            said = subprocess.run(["dnsperf", "-s", HERE, "-d", asked, "-l", "2", *words], capture_output=True,
-                                  text=True).stdout
+            said = run("dnsperf", "-s", HERE, "-d", asked, "-l", "2", *words).stdout
             assert re.search(r"Queries lost:\s+0 ", said), said
 
 
@@ -191,9 +192,9 @@ def resolving(name, folder, own, port):
     return other(name, folder, address=(HERE, port), own=own)
 
 
-def dig(port, *words):
-    run = ["dig", f"@{HERE}", "-p", str(port), "+short", "+tries=3", *words]
-    return subprocess.run(run, capture_output=True, text=True, timeout=60).stdout
+def resolved(name, port=5397, *words):
+    """The addresses of a name by the resolver, or by the server at another port."""
+    return ask_by("dig", "+short", "+tries=3", *words, name, "A", port=port).split()
 
 
 @pytest.mark.slow
@@ -204,12 +205,12 @@ def test_a_resolver(programs, tmp_path, name):
     zone = tmp_path / "zone"
     zone.write_text(ZONE.read_text() + "".join(f"*.large A 192.0.2.{number}\n" for number in range(1, 41)))
     with zoneserve(programs, "udp", zone, address=(HERE, 5390)), zonesocket(programs, zone, (HERE, 5390)), \
-            resolving(name, tmp_path, 5397, 5390) as run:
-        assert until(lambda: dig(5397, "www.example.", "A") == "192.0.2.80\n", 20) and run.poll() is None
+            resolving(name, tmp_path, 5397, 5390) as resolver:
+        assert until(lambda: resolved("www.example.") == ["192.0.2.80"], 20) and resolver.poll() is None
         for turn in range(3):
-            assert dig(5397, f"{turn}.large.example.", "A").count("192.0.2.") == 40
+            assert len(resolved(f"{turn}.large.example.")) == 40
             begun = time.monotonic()
-            assert dig(5390, "+norec", "+noedns", "+tcp", "www.example.", "A") == "192.0.2.80\n"
+            assert resolved("www.example.", 5390, *WITHOUT_EDNS) == ["192.0.2.80"]
             assert time.monotonic() - begun < 0.5
 
 
@@ -220,8 +221,8 @@ def test_a_delegation(programs, tmp_path):
     below = DATA / "below.zone"
     with zoneserve(programs, "udp"), zoneserve(programs, "udp", below, "sub.example", (BELOW, 53)), \
             resolving("unbound", tmp_path, 5397, PORT):
-        assert until(lambda: dig(5397, "www.example.", "A") == "192.0.2.80\n", 20)
-        assert "192.0.2.99" in dig(5397, "www.sub.example.", "A") and "192.0.2.99" in dig(5397, "deep.example.", "A")
+        assert until(lambda: resolved("www.example.") == ["192.0.2.80"], 20)
+        assert "192.0.2.99" in resolved("www.sub.example.") and "192.0.2.99" in resolved("deep.example.")
 
 
 def test_zoneserve_serves_connections_one_after_another(programs):
@@ -243,18 +244,15 @@ def test_zoneserve_serves_connections_one_after_another(programs):
 @pytest.mark.peers("systemd-analyze")
 def test_units(tmp_path):
     """systemd-analyze finds no fault in the units, and gives the service a low exposure."""
-    units = []
-    for unit in sorted((TOP / "systemd").iterdir()):
+    for unit in (TOP / "systemd").iterdir():
+        more = (TOP / "contrib" / "address.conf").read_text() if unit.suffix == ".socket" else ""
         text = unit.read_text().replace("@PREFIX@/libexec/mitrehyssop", str(LIBEXEC))
-        units.append(tmp_path / unit.name.replace("@", "@example"))
-        units[-1].write_text(text
-                             + ((TOP / "contrib" / "address.conf").read_text() if unit.suffix == ".socket" else ""))
-    done = subprocess.run(["systemd-analyze", "verify", "--man=no", *units], capture_output=True, text=True)
+        (tmp_path / unit.name.replace("@", "@example")).write_text(text + more)
+    done = run("systemd-analyze", "verify", "--man=no", *tmp_path.iterdir())
     assert done.returncode == 0, done.stderr
-    service = next(unit for unit in units if unit.suffix == ".service")
-    said = subprocess.run(["systemd-analyze", "security", "--offline=true", "--no-pager", service],
-                          capture_output=True, text=True)
-    assert float(re.search(r"exposure level for .*: ([\d.]+)", said.stdout)[1]) < 1.6, said.stdout[-300:]
+    service = next(tmp_path.glob("*.service"))
+    said = run("systemd-analyze", "security", "--offline=true", "--no-pager", service).stdout
+    assert float(re.search(r"exposure level for .*: ([\d.]+)", said)[1]) < 1.6, said[-300:]
 
 
 # ---- many connections to zonesocket
@@ -283,8 +281,7 @@ def zone(tmp_path_factory):
 def replies(programs, zone):
     """The octets that each message gets, by the program that is proved to give them."""
     lines = "".join(message.hex() + "\n" for message in MESSAGES)
-    words = [programs / "zoneserve", "once", "--tcp", ORIGIN, zone]
-    said = subprocess.run(words, input=lines, capture_output=True, text=True, check=True).stdout.split()
+    said = run(programs / "zoneserve", "once", "--tcp", ORIGIN, zone, input=lines, check=True).stdout.split()
     return [b"" if line == "none" else framed(bytes.fromhex(line)) for line in said]
 
 
@@ -292,64 +289,58 @@ def many(programs, zone, transport="tcp", **how):
     return Serving(programs / "zonesocket", transport, zone, ORIGIN, MANY, **how)
 
 
-async def write_in_pieces(writer, stream, chance, is_closed):
-    most = chance.choice([1, 3, 100, 1_460, 70_000]) if len(stream) < 2_000 else chance.choice([1_460, 20_000, 70_000])
-    while stream:
-        size = chance.randrange(1, most + 1)
-        writer.write(stream[:size])
-        await writer.drain()
-        stream = stream[size:]
-        if chance.random() < 0.02:
-            await asyncio.sleep(chance.random() / 50)
-    if not is_closed:
-        writer.write_eof()
+def send_in_pieces(client, stream, chance, is_half_closed):
+    most = chance.choice([1, 3, 100, 1_460, 70_000] if len(stream) < 2_000 else [1_460, 20_000, 70_000])
+    with contextlib.suppress(OSError):
+        while stream:
+            size = chance.randrange(1, most + 1)
+            client.sendall(stream[:size])
+            stream = stream[size:]
+            if chance.random() < 0.02:
+                time.sleep(chance.random() / 50)
+        if is_half_closed:
+            client.shutdown(socket.SHUT_WR)
 
 
-async def read_to_end(reader, got, wanted, chance, is_closed):
-    slow = chance.random() < 0.2
-    while len(got) < len(wanted) or not is_closed:
-        piece = await reader.read(chance.choice([1_000, 70_000]) if slow else 1 << 16)
+def read_from(client, size, chance, is_half_closed):
+    """The octets up to the end of a half-closed connection, or this number of them."""
+    got, is_slow = bytearray(), chance.random() < 0.2
+    while is_half_closed or len(got) < size:
+        piece = client.recv(chance.choice([1_000, 70_000]) if is_slow else 1 << 16)
         if not piece:
             break
-        got.extend(piece)
-        if slow:
-            await asyncio.sleep(0.001)
+        got += piece
+        time.sleep(0.001 if is_slow else 0)
+    return bytes(got)
 
 
-async def one_connection(number, replies):
+def one_connection(number, replies):
     """Sends some messages cut into pieces, and returns what is wrong with the replies, or None. Then the connection is
     closed, or half closed, perhaps amid a message."""
-    chance, got = random.Random(number), bytearray()
+    chance = random.Random(number)
     chosen = [chance.randrange(len(MESSAGES)) for _ in range(chance.choice([1, 2, 5, 40]))]
     stream, wanted = b"".join(framed(MESSAGES[one]) for one in chosen), b"".join(replies[one] for one in chosen)
     ends = chance.choice(["close", "half", "cut"])
     if ends == "cut":
         stream += framed(MESSAGES[0])[:chance.randrange(1, 20)]
-    reader, writer = await asyncio.open_connection(*MANY, limit=chance.choice([1 << 10, 1 << 20]))
-    try:
-        async with asyncio.timeout(30):
-            await asyncio.gather(write_in_pieces(writer, stream, chance, ends == "close"),
-                                 read_to_end(reader, got, wanted, chance, ends == "close"))
-    except (OSError, TimeoutError) as error:
-        return f"{number}: {ends}: {error!r} after {len(got)} of {len(wanted)}"
-    finally:
-        writer.close()
-    return None if bytes(got) == wanted else f"{number}: {ends}: {len(got)} octets, not {len(wanted)}"
-
-
-async def all_connections(count, replies):
-    gate = asyncio.Semaphore(60)
-
-    async def one(number):
-        async with gate:
-            return await one_connection(number, replies)
-    return [wrong for wrong in await asyncio.gather(*map(one, range(count))) if wrong]
+    with connected(MANY, 30) as client:
+        client.setsockopt(socket.SOL_SOCKET, socket.SO_RCVBUF, chance.choice([1 << 12, 1 << 20]))
+        sending = client, stream, random.Random(-number - 1), ends != "close"
+        sender = threading.Thread(target=send_in_pieces, args=sending)
+        sender.start()
+        try:
+            got = read_from(client, len(wanted), chance, ends != "close")
+        except OSError as error:
+            return f"{number}: {ends}: {error!r}"
+        finally:
+            sender.join()
+    return None if got == wanted else f"{number}: {ends}: {len(got)} octets, not {len(wanted)}"
 
 
 @pytest.mark.parametrize("count", [600, pytest.param(10_000, marks=pytest.mark.slow)])
 def test_streams_cut_in_every_way(programs, zone, replies, count):
-    with many(programs, zone) as server:
-        assert asyncio.run(all_connections(count, replies)) == []
+    with many(programs, zone) as server, ThreadPoolExecutor(60) as pool:
+        assert not [*filter(None, pool.map(lambda number: one_connection(number, replies), range(count)))]
         assert server.end()[0] == 0
         assert set(server.said) <= {"S1", "S2", "S3"}
 
@@ -383,7 +374,7 @@ def test_more_peers_than_places(programs, zone):
     """The one whose progress is oldest ends; one that asks now is served now."""
     with many(programs, zone) as server, contextlib.ExitStack() as stack:
         peers = [stack.enter_context(connected(MANY, 5)) for _ in range(256)]
-        assert until(lambda: asks_at_once())
+        assert until(asks_at_once)
         assert frame_of(peers[0]) is None
         assert all(asks(peer, MESSAGES[0]) for peer in peers[-50:])
         more = [stack.enter_context(connected(MANY, 5)) for _ in range(100)]
@@ -411,7 +402,7 @@ def test_few_descriptors(programs, zone):
         assert asks(peers[0], MESSAGES[0])
         for peer in peers[1:20]:
             peer.close()
-        assert until(lambda: asks_at_once(), 10)
+        assert until(asks_at_once, 10)
         assert server.end()[0] == 0 and "accept" in server.said
 
 
@@ -434,18 +425,17 @@ def test_end_on_request(programs, zone):
 def test_a_file_or_a_terminal_never_ends_it(programs, zone, tmp_path):
     for output in [open(tmp_path / "said", "wb"), open(os.openpty()[1], "wb")]:
         with output, bound(socket.SOCK_STREAM, MANY) as given:
-            run = subprocess.Popen([programs / "zonesocket", "tcp", "2", ORIGIN, zone], stdin=given, stdout=output)
-            assert until(lambda: asks_at_once())
+            server = subprocess.Popen([programs / "zonesocket", "tcp", "2", ORIGIN, zone], stdin=given, stdout=output)
+            assert until(asks_at_once)
             time.sleep(0.5)
-            assert run.poll() is None and asks_at_once()
-            assert run.wait(5) == 0
+            assert server.poll() is None and asks_at_once()
+            assert server.wait(5) == 0
 
 
 def test_sockets_that_are_not_served(programs, zone):
     def said(given, transport):
-        run = subprocess.run([programs / "zonesocket", transport, "1", ORIGIN, zone], stdin=given, capture_output=True,
-                             timeout=20)
-        return run.returncode, run.stderr.decode().strip()
+        done = run(programs / "zonesocket", transport, "1", ORIGIN, zone, stdin=given)
+        return done.returncode, done.stderr.strip()
     with contextlib.ExitStack() as stack:
         udp, tcp = (stack.enter_context(bound(kind, MANY)) for kind in (socket.SOCK_DGRAM, socket.SOCK_STREAM))
         peer = stack.enter_context(connected(MANY))

@@ -9,7 +9,7 @@ import time
 
 import pytest
 import servers
-from servers import Workers, asking, asks, bound, connected, frame_of, is_answered, is_there, until
+from servers import Workers, asks, bound, connected, frame_of, is_answered, is_there, until
 
 HERE = ("127.0.0.1", 5392)
 ORIGIN = "example.com"
@@ -108,10 +108,7 @@ def test_a_reload_is_whole_or_not_at_all(run, programs, tmp_path):
         assert workers.reload() == 1
         assert "zonesocket tcp ended with status 3 before it served" in workers.log()
         assert until(lambda: workers.processes() == before)
-        with asking(HERE) as client:
-            for _ in range(20):
-                client.send(servers.query(ORIGIN, "SOA"))
-                assert servers.serial_of(client.recv(512), len(servers.query(ORIGIN, "SOA"))) == 1
+        assert all(servers.serial_at(HERE, ORIGIN) == 1 for _ in range(20))
 
 
 def test_a_file_that_changes_at_the_start(run):
