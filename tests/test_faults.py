@@ -3,6 +3,7 @@ signals. Each run must either be normal, where the fault allows that, or end wit
 docs/CODES.md, after writing at most a prefix of its normal output."""
 import contextlib
 import fcntl
+import itertools
 import os
 import re
 import resource
@@ -14,11 +15,12 @@ import time
 
 import dns.message
 import pytest
-from servers import TOP, Serving, asking, bound, connected, framed, mixed_zone, query, until
+from servers import DATA, TOP, Serving, asking, bound, connected, filled, framed, mixed_zone, query, until
 
 ADDRESS = ("127.0.0.1", 5396)
 QUERY = query("www.example")
-EXAMPLE = TOP / "examples" / "example.zone"
+EXAMPLE, REFUSED = TOP / "examples" / "example.zone", TOP / "crates" / "refused"
+LARGE = REFUSED / "data" / "large.zone"
 pytestmark = pytest.mark.slow
 compiled, traced = pytest.mark.peers("cc"), pytest.mark.peers("strace")
 
@@ -66,8 +68,7 @@ def folder(tmp_path_factory):
 @pytest.fixture(params=CASES)
 def case(request, programs, folder):
     words, given = CASES[request.param]
-    places = {"EXAMPLES": TOP / "examples", "DATA": TOP / "tests" / "data", "FOLDER": folder}
-    name, *words = re.sub("EXAMPLES|DATA|FOLDER", lambda place: str(places[place[0]]), words).split()
+    name, *words = filled(words, examples=TOP / "examples", data=DATA, folder=folder).split()
     given = (TOP / given).read_bytes() if given else b""
     return Case([programs / name, *words], given)
 
@@ -77,7 +78,7 @@ def refusing(folder):
     """Gives the environment that makes an allocation fail, and a file that is created when that happens
     (tests/data/refuse.c)."""
     device, mark = folder / "refuse.so", folder / "refused"
-    subprocess.run(["cc", "-shared", "-fPIC", "-O1", "-o", device, TOP / "tests" / "data" / "refuse.c"], check=True)
+    subprocess.run(["cc", "-shared", "-fPIC", "-O1", "-o", device, DATA / "refuse.c"], check=True)
 
     def refusing(number):
         mark.unlink(missing_ok=True)
@@ -91,20 +92,23 @@ def limit_of(kind, octets):
 
 # ---- memory
 
+def without_one(case, refusing):
+    """The results of runs in which the first allocation fails, the second, and so on. After all, a run is normal."""
+    for number in itertools.count(1):
+        how, mark = refusing(number)
+        result = case.run(env=how)
+        if not mark.exists():
+            assert result == case.well and number > 1
+            return
+        yield result
+
+
 @compiled
 def test_each_allocation_fails(case, refusing):
     """Alone: the program must report `no memory` and write no output, but for at most one, which only makes room ahead
     and is asked for again."""
-    wells = number = 0
-    while True:
-        number += 1
-        how, mark = refusing(number)
-        result = case.run(env=how)
-        if not mark.exists():
-            break
-        wells += result == case.well
-        assert case.stopped(result, b"no memory") or wells == 1 and result == case.well, number
-    assert result == case.well and number > 1
+    others = [result for result in without_one(case, refusing) if not case.stopped(result, b"no memory")]
+    assert others in ([], [case.well])
 
 
 def calls_refused(well):
@@ -127,7 +131,7 @@ def refused(programs):
     """The program of crates/refused, which calls functions of the libraries one after another."""
     if not (programs / "refused").exists():
         pytest.skip("crates/refused is not built: rt run there builds it")
-    return Case([programs / "refused", TOP / "crates" / "refused" / "data" / "large.zone"])
+    return Case([programs / "refused", LARGE])
 
 
 @compiled
@@ -135,23 +139,18 @@ def test_each_allocation_of_a_call_fails(refused, refusing):
     """Alone: one call must report it, or else the program itself, but for at most one in each of three calls, which
     only makes room ahead. The last allocation must be one of load_zone: the replies and sessions that follow it
     allocate nothing."""
-    assert refused.well == (0, (TOP / "crates" / "refused" / "stdout").read_bytes(), b"")
+    assert refused.well == (0, (REFUSED / "stdout").read_bytes(), b"")
     wanted = calls_refused(refused.output)
-    counts, number, last, wells = dict.fromkeys([*wanted, "the program"], 0), 0, "", 0
-    while True:
-        number += 1
-        how, mark = refusing(number)
-        result = refused.run(env=how)
-        if not mark.exists():
-            break
+    said = []
+    for result in without_one(refused, refusing):
         names = [name for name, output in wanted.items() if result == (0, output, b"")]
-        if not names and result == refused.well:
-            wells += 1
-            continue
-        last = names[0] if names else "the program"
-        assert names or refused.stopped(result, b"no memory"), number
-        counts[last] += 1
-    assert result == refused.well and min(counts.values()) > 0 and last == "load_zone" and wells <= 3, counts
+        if names or result != refused.well:
+            assert names or refused.stopped(result, b"no memory"), result
+            said.append(names[0] if names else "the program")
+        else:
+            said.append("none")
+    assert set(said) - {"none"} == {*wanted, "the program"} and said.count("none") <= 3, said
+    assert [one for one in said if one != "none"][-1] == "load_zone"
 
 
 def test_little_memory(case):
@@ -181,6 +180,10 @@ def test_a_small_stack_for_all_calls(refused):
 ERRORS = {"mmap": "ENOMEM", "mremap": "ENOMEM", "openat": "EACCES", "read": "EIO", "write": "ENOSPC", "close": "EIO"}
 
 
+def injecting(name, error, number):
+    return ["strace", "-qq", "-o", "/dev/null", "-e", f"inject={name}:error={error}:when={number}"]
+
+
 def calls_of(case, folder):
     """For each name of a system call in a run: the number of its calls by the loader, and by the loader and the
     program together. The call that sets the action of SIGPIPE is the last one that is counted as the loader's."""
@@ -198,8 +201,7 @@ def test_each_system_call_fails(case, folder, name):
     loader, last = calls_of(case, folder)[name]
     message = {"openat": b"R16", "read": b"R16", "write": b"P1"}.get(name, b"no memory")
     for number in range(loader + 1, last + 1):
-        result = case.run(["strace", "-qq", "-o", "/dev/null", "-e",
-                           f"inject={name}:error={ERRORS[name]}:when={number}"])
+        result = case.run(injecting(name, ERRORS[name], number))
         is_well = result == case.well and name not in ("openat", "read", "write")
         assert is_well or case.stopped(result, message, nothing=name not in ("read", "write")), number
 
@@ -265,8 +267,8 @@ NETWORK = {
 GIVEN = {"fcntl": ("EMFILE", "bind"), "getsockname": ("ENOBUFS", "bind")}
 
 
-def injecting(name, error, number):
-    return ["strace", "-qq", "-o", "/dev/null", "-e", f"inject={name}:error={error}:when={number}"]
+def serving(programs, name, transport, turns=TURNS, zone=EXAMPLE, **how):
+    return Serving(programs / name, transport, zone, "example", ADDRESS, turns, **how)
 
 
 def ended(server):
@@ -281,9 +283,9 @@ def ask(server, times):
     """Sends a query so many times, each over a new socket, and returns the number of replies."""
     answered = 0
     for _ in range(times if server.serves else 0):
-        with contextlib.suppress(OSError), asking(ADDRESS, 1) if server.transport == "udp" else connected(ADDRESS,
-                                                                                                          1) as client:
-            client.send(QUERY if server.transport == "udp" else framed(QUERY))
+        is_udp = server.transport == "udp"
+        with contextlib.suppress(OSError), (asking if is_udp else connected)(ADDRESS, 1) as client:
+            client.send(QUERY if is_udp else framed(QUERY))
             answered += len(client.recv(512)) > 12
     return answered
 
@@ -303,8 +305,7 @@ def test_each_call_on_a_socket_fails(programs, name, transport):
         # The first send over UDP at a given socket only examines this socket, and is repeated.
         examines = (name, transport, call) == ("zonesocket", "udp", "sendto")
         for number in [1] if message == "bind" else range(1, TURNS + 1 + examines):
-            how = {"turns": TURNS, "by": injecting(call, error, number)}
-            with Serving(programs / name, transport, EXAMPLE, "example", ADDRESS, **how) as server:
+            with serving(programs, name, transport, by=injecting(call, error, number)) as server:
                 answered, said = ask(server, TURNS), ended(server)
             if examines and number == 1:
                 assert (said, answered) == ((0, []), TURNS)
@@ -321,8 +322,7 @@ def test_each_call_on_a_socket_fails(programs, name, transport):
 @pytest.mark.parametrize("call", ["recvfrom", "sendto"])
 def test_a_call_is_interrupted(programs, name, transport, call, number):
     """The server repeats it, and reports nothing."""
-    how = {"turns": TURNS, "by": injecting(call, "EINTR", number)}
-    with Serving(programs / name, transport, EXAMPLE, "example", ADDRESS, **how) as server:
+    with serving(programs, name, transport, by=injecting(call, "EINTR", number)) as server:
         assert (ask(server, TURNS), ended(server)) == (TURNS, (0, []))
 
 
@@ -331,7 +331,7 @@ def test_a_given_socket_that_does_not_block(programs, transport):
     """The server waits for questions all the same, and leaves the socket non-blocking."""
     with bound({"udp": socket.SOCK_DGRAM, "tcp": socket.SOCK_STREAM}[transport], ADDRESS) as given:
         given.setblocking(False)
-        with Serving(programs / "zonesocket", transport, EXAMPLE, "example", ADDRESS, TURNS, given=given) as server:
+        with serving(programs, "zonesocket", transport, given=given) as server:
             time.sleep(0.1)
             assert (ask(server, TURNS), ended(server), given.getblocking()) == (TURNS, (0, []), False)
 
@@ -339,7 +339,7 @@ def test_a_given_socket_that_does_not_block(programs, transport):
 def recorded(transport):
     """The replies of `refused` over a transport, the queries to which they are replies, and the octets of its
     session."""
-    lines = (TOP / "crates" / "refused" / "stdout").read_text().split("\n")
+    lines = (REFUSED / "stdout").read_text().split("\n")
     first = lines.index("load_zone: a zone") + 1
     replies = [bytes.fromhex(line) for line in lines[first:first + 16]][1 if transport == "tcp" else 0::2]
     asked = [dns.message.from_wire(reply, question_only=True) for reply in replies]
@@ -352,9 +352,7 @@ def recorded(transport):
 def starved(programs, name, transport, turns, refusing):
     """A server that gets no more memory after it has loaded its zone: with less it must end."""
     for number in range(1, 1000):
-        how = {"turns": turns, "env": refusing(f"{number}+")[0]}
-        zone = TOP / "crates" / "refused" / "data" / "large.zone"
-        with Serving(programs / name, transport, zone, "example", ADDRESS, **how) as server:
+        with serving(programs, name, transport, turns, LARGE, env=refusing(f"{number}+")[0]) as server:
             if server.serves and not until(lambda: server.run.poll() is not None, 0.3):
                 yield server
                 return
@@ -393,16 +391,3 @@ def test_a_starved_server_over_tcp(programs, refusing, name):
                 assert got in (reply, b"")
         status, said = ended(server)
         assert status == 0 and set(said) <= {"accept", "S3"}
-
-
-@pytest.mark.parametrize("transport", NETWORK)
-def test_signals(programs, transport):
-    """A server that was stopped and continued serves the next clients. SIGTERM ends a server by its default action."""
-    with Serving(programs / "zoneserve", transport, EXAMPLE, "example", ADDRESS) as server:
-        with connected(ADDRESS) if transport == "tcp" else contextlib.nullcontext():
-            for sent in [signal.SIGSTOP, signal.SIGCONT] * 2:
-                server.run.send_signal(sent)
-                time.sleep(0.1)
-        assert ask(server, 3) == 3
-        server.run.send_signal(signal.SIGTERM)
-        assert server.run.wait(timeout=5) == -signal.SIGTERM
