@@ -9,7 +9,9 @@ import tempfile
 from pathlib import Path
 
 TOP = Path(__file__).resolve().parent.parent
-sys.path.append(str(TOP / "tests"))  # for `servers`, which benches import after this module
+sys.path.append(str(TOP / "tests"))
+import servers  # noqa: E402
+
 # The seconds after which a run is ended.
 SECONDS = 600
 # callgrind counts each octet of `rep movsb` as an instruction, so the C library is set to avoid it.
@@ -62,8 +64,8 @@ def instructions(words, given, patience=SECONDS, folder=None):
 def time_of(server):
     """The processor time so far of the processes in a server's session, in microseconds, with a fraction."""
     nanoseconds = 0
-    for task in glob.iglob("/proc/[0-9]*/task/*"):
+    for task in glob.iglob("[0-9]*/task/*", root_dir="/proc"):
         with contextlib.suppress(OSError):
             if int(Path(task, "stat").read_text().rsplit(")", 1)[1].split()[3]) == server.pid:
-                nanoseconds += int(Path(task, "schedstat").read_text().split()[0])
+                nanoseconds += int(Path("/proc", task, "schedstat").read_text().split()[0])
     return nanoseconds / 1_000

@@ -51,6 +51,13 @@ def run(*words, **how):
                           **{"capture_output": True, "text": True, "timeout": 900, **how})
 
 
+def script(path, *lines):
+    """Writes a program of these lines for bash, in a folder that need not exist."""
+    Path(path).parent.mkdir(exist_ok=True)
+    Path(path).write_text("\n".join(["#!/usr/bin/env bash", *lines, ""]))
+    Path(path).chmod(0o755)
+
+
 def serial_of(reply, place):
     """The serial in a reply whose first record is an SOA at this place, with a pointer as its owner. Four numbers
     follow it."""
@@ -98,15 +105,9 @@ def is_there(process):
     return Path(f"/proc/{process}").exists()
 
 
-def state_of(process):
-    """The state of a process in one letter: T if it is stopped."""
-    return Path(f"/proc/{process}/stat").read_text().rsplit(")", 1)[1].split()[0]
-
-
-def seconds_of(process):
-    """The processor time of a process and of its children that have ended, in seconds."""
-    fields = Path(f"/proc/{process}/stat").read_text().rsplit(")", 1)[1].split()
-    return sum(map(int, fields[11:15])) / os.sysconf("SC_CLK_TCK")
+def fields_of(process):
+    """The fields of a process in /proc, from its state on, a letter: T if it is stopped."""
+    return Path(f"/proc/{process}/stat").read_text().rsplit(")", 1)[1].split()
 
 
 def spent():

@@ -299,16 +299,7 @@ def test_a_reply_that_the_rfcs_allow(ran, title):
     assert (done.returncode, done.stderr, found_by(done)) == (0, "", {})
 
 
-@pytest.mark.parametrize("words, wanted", [
-    ("example nowhere SERVER", "No such file"), ("example . SERVER", "Is a directory"),
-    ("a..b good SERVER", "bad origin"),
-    ("example good", "give a SERVER"), ("example good 127.0.0.1:0", "127.0.0.1:0: "),
-    ("example good 127.0.0.1:65536", "127.0.0.1:65536: "), ("example good [::1]:x", "[::1]:x: "),
-    ("example good \033[2J:x", "\\027[2J:x: "), ("example good EMPTY", ": "),
-    ("--questions 0 example good SERVER", "at least 1"),
-    ("--rate -1 example good SERVER", "at least 0"), ("--rate nan example good SERVER", "at least 0"),
-    ("--format xml example good SERVER", "xml"), ("example good SERVER --time", "--time"),
-    ("example faulty SERVER", ": R13: ")])
+@pytest.mark.parametrize("words, wanted", REPLIES["calls"])
 def test_bad_calls_and_files(programs, tmp_path, monkeypatch, words, wanted):
     """Status 2, a message, no traceback, and no question. The faults of a file are those that zonelint prints."""
     monkeypatch.chdir(tmp_path)

@@ -9,7 +9,7 @@ import subprocess
 from pathlib import Path
 
 import pytest
-from servers import run, until
+from servers import run, script, until
 
 WORKS = ["bash", "-c", "echo >>restarts"]
 OTHER = "served.zone is the zone example., and new is exmaple."
@@ -24,12 +24,6 @@ def write(serial, address="192.0.2.4", count=0):
 
 def serial_in(file):
     return Path(file).read_text().split(None, 7)[6] if os.path.isfile(file) else ""
-
-
-def script(path, *lines):
-    Path(path).parent.mkdir(exist_ok=True)
-    Path(path).write_text("\n".join(["#!/bin/sh", *lines, ""]))
-    Path(path).chmod(0o755)
 
 
 @pytest.fixture

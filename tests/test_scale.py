@@ -12,10 +12,10 @@ import time
 import urllib.request
 
 import pytest
-from servers import TOP, Steady, Workers, run, until
+from servers import DATA, TOP, Steady, Workers, filled, run, script, serial_at, until
 
 pytestmark = [pytest.mark.slow, pytest.mark.root, pytest.mark.peers("ip", "dig")]
-CONTRIB, DATA = TOP / "contrib", TOP / "tests" / "data"
+CONTRIB = TOP / "contrib"
 ZONE = "$TTL 60\n@ SOA ns h {} 2 3 4 5\n@ NS ns\nns A 192.0.2.1\nwww A 192.0.2.2\n"
 NEW_NETWORK = 0x40000000
 
@@ -176,14 +176,14 @@ def test_a_hidden_primary(network, tmp_path):
         assert done.returncode == 0, done
 
     def serves(serial):
-        said = run("dig", "+short", "+tries=1", "+time=1", "@203.0.113.53", "example.com", "SOA").stdout
-        return said.endswith(f" {serial} 2 3 4 5\n")
+        return serial_at(("203.0.113.53", 53), "example.com") == serial
+
     network.host("one", "192.0.2.10/32", "203.0.113.53/32")
     key, conf = base64.b64encode(os.urandom(32)).decode(), tmp_path / "nsd.conf"
     text = (CONTRIB / "hidden-nsd.conf").read_text() + (DATA / "hidden-nsd.more").read_text()
     conf.write_text(re.sub("/var/lib/mitrehyssop|/run/nsd|FOLDER", str(tmp_path), text.replace("THE KEY", key)))
-    text = (DATA / "hidden-knot.conf").read_text().replace("FOLDER", str(tmp_path)).replace("THE KEY", key)
-    (tmp_path / "knot.conf").write_text(text)
+    text = (DATA / "hidden-knot.conf").read_text().replace("THE KEY", key)
+    (tmp_path / "knot.conf").write_text(filled(text, folder=tmp_path))
     (tmp_path / "knot").mkdir()
     with network.within("one"):
         deploy(1, "true")
@@ -200,15 +200,12 @@ def test_a_hidden_primary(network, tmp_path):
 # For zonedeploy-to: an ssh and a dig that reach the hosts of this test, and a systemctl that reloads the workers of a
 # host.
 COMMANDS = {
-    "ssh": """folder=FOLDER/$1 said=${2//\\/var\\/lib\\/mitrehyssop\\/example.com/$folder}
-HOST=$1 exec ip netns exec PREFIX$1 bash -c "$said"
-""", "dig": """for word; do case $word in @[123]) exec ip netns exec PREFIX${word#@} DIG "${@/$word/@192.0.2.53}" ;;
-esac; done
-exec DIG "$@"
-""",
-    "systemctl": """[ "$1" != reload ] || kill -HUP "$(cat FOLDER/$HOST.served)"
-[ "$1" != is-enabled ]
-"""}
+    "ssh": ["folder=FOLDER/$1 said=${2//\\/var\\/lib\\/mitrehyssop\\/example.com/$folder}",
+            'HOST=$1 exec ip netns exec PREFIX$1 bash -c "$said"'],
+    "dig": ["for word; do case $word in @[123])",
+            'exec ip netns exec PREFIX${word#@} PROGRAM "${@/$word/@192.0.2.53}" ;;',
+            'esac; done; exec PROGRAM "$@"'],
+    "systemctl": ['[ "$1" != reload ] || kill -HUP "$(cat FOLDER/$HOST.served)"', '[ "$1" != is-enabled ]']}
 
 
 class Anycast:
@@ -216,19 +213,10 @@ class Anycast:
 
     def __init__(self, network, programs, folder):
         self.network, self.programs, self.folder, self.workers = network, programs, folder, {}
-        for host in ("r", "c"):
-            network.host(host)
-        network.ip("r", "link add rt type bridge", "addr add 198.51.100.1/24 dev rt", "link set rt up")
-        for host in "123":
-            network.host(host, "192.0.2.53/32")
-            network.ip("r", f"link add h{host} type veth peer name eth0 netns {network.prefix}{host}",
-                       f"link set h{host} master rt up")
-            network.ip(host, f"addr add 198.51.100.1{host}/24 dev eth0", "link set eth0 up",
-                       "route add default via 198.51.100.1")
-        network.ip("r", f"link add cl type veth peer name eth0 netns {network.prefix}c",
-                   "addr add 203.0.113.1/24 dev cl",
-                   "link set cl up")
-        network.ip("c", "addr add 203.0.113.2/24 dev eth0", "link set eth0 up", "route add default via 203.0.113.1")
+        for host in "rc123":
+            network.host(host, *["192.0.2.53/32"] * host.isdigit())
+        for line in filled((DATA / "anycast.network").read_text(), prefix=network.prefix).splitlines():
+            network.ip(*line.split(" ", 1))
         with network.within("r"):
             run("sysctl", "-qw", "net.ipv4.ip_forward=1", "net.ipv4.fib_multipath_hash_policy=1")
         self.bird("r", (DATA / "router.conf").read_text())
@@ -274,13 +262,9 @@ class Anycast:
     def deploy(self):
         """Deploys to one host after another."""
         self.write(2)
-        (self.folder / "bin").mkdir()
-        for name, text in COMMANDS.items():
-            for word, value in {"FOLDER": self.folder, "PREFIX": self.network.prefix,
-                                "DIG": shutil.which("dig")}.items():
-                text = text.replace(word, str(value))
-            (self.folder / "bin" / name).write_text("#!/usr/bin/env bash\n" + text)
-            (self.folder / "bin" / name).chmod(0o755)
+        for name, lines in COMMANDS.items():
+            values = {"folder": self.folder, "prefix": self.network.prefix, "program": shutil.which(name)}
+            script(self.folder / "bin" / name, *(filled(line, **values) for line in lines))
         path = {**os.environ, "PATH": f"{self.folder / 'bin'}:{os.environ['PATH']}"}
         done = run("zonedeploy-to", "example.com", self.folder / "zone", "1", "2", "3", env=path)
         assert done.returncode == 0, done

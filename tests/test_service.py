@@ -84,23 +84,18 @@ def test_faulty_files(run):
         workers.file.write_bytes(b"")
         assert workers.reload() == 1
         assert workers.processes() == before and is_answered(HERE, QUESTION)
-        assert servers.seconds_of(workers.pid) < 3
+        # The processor time of the supervisor, and of its children that have ended.
+        assert sum(map(int, servers.fields_of(workers.pid)[11:15])) < 3 * os.sysconf("SC_CLK_TCK")
         write(workers.file, 3)
         assert workers.reload() == 0 and SERVES.format(3) in workers.log()
 
 
 def test_a_reload_is_whole_or_not_at_all(run, programs, tmp_path):
     """If one new worker of three fails, no socket gets the new zone."""
-    shim = tmp_path / "shim"
-    shim.mkdir()
-    (shim / "zonesocket").write_text(
-        f'#!/bin/sh\n[ "$1" = udp ] || [ ! -e {tmp_path}/fails ] || exit 3\nexec {programs}/zonesocket "$@"\n')
-    (shim / "zonesocket").chmod(0o755)
-    (shim / "zonecheck").symlink_to(programs / "zonecheck")
-    with run() as workers:
-        pass
+    servers.script(tmp_path / "shim" / "zonesocket", f'[ "$1" = udp ] || [ ! -e {tmp_path}/fails ] || exit 3',
+                   f'exec {programs}/zonesocket "$@"')
     workers = run()
-    workers.environment["PATH"] = f"{shim}:{workers.environment['PATH']}"
+    workers.environment["PATH"] = f"{tmp_path / 'shim'}:{workers.environment['PATH']}"
     with workers:
         (tmp_path / "fails").touch()
         write(workers.file, 2)
@@ -169,7 +164,7 @@ def test_workers_that_end(run):
         stopped = workers.processes()
         for one in stopped:
             os.kill(one, signal.SIGSTOP)
-            assert until(lambda one=one: servers.state_of(one) == "T")
+            assert until(lambda one=one: servers.fields_of(one)[0] == "T")
         assert workers.reload() == 0 and is_answered(HERE, QUESTION)
         assert until(lambda: not set(stopped) & set(workers.processes()), 12)
 
