@@ -66,6 +66,6 @@ def time_of(server):
     nanoseconds = 0
     for task in glob.iglob("[0-9]*/task/*", root_dir="/proc"):
         with contextlib.suppress(OSError):
-            if int(Path(task, "stat").read_text().rsplit(")", 1)[1].split()[3]) == server.pid:
+            if int(servers.fields_of(task)[3]) == server.pid:
                 nanoseconds += int(Path("/proc", task, "schedstat").read_text().split()[0])
     return nanoseconds / 1_000
