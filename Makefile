@@ -22,9 +22,13 @@ PYTEST = /usr/bin/python3 -m pytest -q
 QUERY = 12340000000100000000000003777777076578616d706c6503636f6d0000010001
 run: export PATH := $(CURDIR)/crates/zonecheck/out:$(CURDIR)/crates/zoneserve/out:$(CURDIR)/crates/dnsmsg/out:$(CURDIR)/bin:$(PATH)
 run: built
+	@echo
 	cd examples && zonecheck example.com company.zone
+	@echo
 	cd examples && zonelint example faulty.zone || true
+	@echo
 	cd examples && echo $(QUERY) | zoneserve once example.com company.zone | dnsmsg
+	@echo
 	@echo 'Next: make install, and docs/OPERATE.md to serve a zone, or zonelint on your own zones (docs/CODES.md).'
 
 # Proves and builds the programs if one is missing or older than a source.
