@@ -1,6 +1,7 @@
 """bin/zonedeploy and bin/zonedeploy-to: serials (RFC 1982 3.2), restarts that fail, faulty and other zones, files that
 can't be read or written, dry runs, two runs at once, runs that are killed, and connections that break."""
 import hashlib
+import json
 import os
 import re
 import resource
@@ -9,11 +10,10 @@ import subprocess
 from pathlib import Path
 
 import pytest
-from servers import run, script, until
+from servers import DATA, run, script, until
 
 WORKS = ["bash", "-c", "echo >>restarts"]
 OTHER = "served.zone is the zone example., and new is exmaple."
-WARNS = "new:5: W42: x.example.: the target nowhere.example. does not exist"
 
 
 def write(serial, address="192.0.2.4", count=0):
@@ -40,25 +40,20 @@ def deploys(programs, tmp_path, monkeypatch):
     return deploys
 
 
-def test_serials_and_restarts(deploys):
-    write(5, "192.0.2.1")
-    deploys(0, 5, 1)
-    deploys(0, 5, 1, "nothing changes")
-    write(6, "192.0.2.2")
-    deploys(1, 6, 1, "failed: run zonedeploy again", restart=["false"])
-    deploys(0, 6, 2, "nothing changes")  # The restart is made up for,
-    deploys(0, 6, 2, "nothing changes")  # and not twice.
-    assert serial_in("served.zone.old") == "5"
-    for serial in (6, 5, 4294967295, 2147483654):
-        write(serial, "192.0.2.3")
-        deploys(1, 6, 2, f"serial {serial} is not greater than 6")
-    for restarts, serial in enumerate([2147483653, 3], 3):
-        write(serial, "192.0.2.3")
-        deploys(0, serial, restarts)
-    for address, said in [("192.0.2.256", "new:4: R13: "),
-                          ("192.0.2.4\na CNAME ns\n@ MX 10 a", "new:6: Z11: example.: ")]:
-        write(4, address)
-        deploys(1, 3, 4, said)
+# Steps, one after another: the serial and the address of the file that is written before, if one is; the status, the serial
+# that is served and the restarts so far; a part of what is printed; and how zonedeploy is run. A restart that failed is made up
+# for by the next run, and not twice.
+STEPS = json.loads((DATA / "deploys.json").read_text())
+
+
+@pytest.mark.parametrize("steps", STEPS.values(), ids=STEPS)
+def test_steps(deploys, steps):
+    for written, status, serial, restarts, said, *how in steps:
+        if written:
+            write(*written)
+        before = serial_in("served.zone")
+        deploys(status, serial, restarts, said, **dict(*how))
+        assert before in ("", str(serial)) or serial_in("served.zone.old") == before
 
 
 def test_files_that_are_not_plain(deploys):
@@ -96,18 +91,6 @@ def test_a_served_zone_that_is_another_or_at_fault(deploys):
     Path("served.zone").write_text(text.replace("ns.example. 60 IN A", "ns.example. 60 IN AAAA"))
     deploys(1, 4, 2, OTHER, origin="exmaple")
     deploys(0, 4, 3, "is at fault itself")
-
-
-def test_dry_runs_and_warnings(deploys):
-    write(4)
-    deploys(0, 4, 1)
-    write(5, "192.0.2.4\nx CNAME nowhere")
-    for said in ("> x.example. 60 IN CNAME nowhere.example.", WARNS):
-        deploys(0, 4, 1, said, options=["--dry-run"])
-    write(4, "192.0.2.5")
-    deploys(1, 4, 1, "serial 4 is not greater than 4", options=["--dry-run"])
-    write(5, "192.0.2.4\nx CNAME nowhere")
-    deploys(0, 5, 2, WARNS)
 
 
 def limited():
