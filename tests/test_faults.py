@@ -4,6 +4,7 @@ docs/CODES.md, after writing at most a prefix of its normal output."""
 import contextlib
 import fcntl
 import itertools
+import json
 import os
 import re
 import resource
@@ -44,18 +45,10 @@ class Case:
         return status == 2 and begins and errors == message + b"\n"
 
 
-# The words of each case, and the file that is its input.
-CASES = {
-    "check --print": ("zonecheck --print example EXAMPLES/example.zone", None),
-    "check --print forms": ("zonecheck --print example DATA/forms.zone", None),
-    "check --print mixed": ("zonecheck --print example FOLDER/some.zone", None),
-    "check faulty": ("zonecheck example EXAMPLES/faulty.zone", None),
-    "serve once": ("zoneserve once example EXAMPLES/example.zone", "crates/zoneserve/stdin"),
-    "serve once --tcp": ("zoneserve once --tcp example FOLDER/some.zone", "crates/zoneserve/stdin"),
-    "message": ("dnsmsg", "crates/dnsmsg/stdin"),
-    # The owner of its SOA record is a pointer, and the two names in the record's data end in pointers.
-    "message of a name error": ("dnsmsg", "tests/data/name-error"),
-}
+# `programs`: the words of each case, and the file that is its input, if it has one. In the message of a name error, the owner of
+# the SOA record is a pointer, and the two names in the record's data end in pointers. `calls`: system calls, each with its error
+# and the message of a program if it fails. `sockets`: the same for each server and transport.
+FAILING = json.loads((DATA / "failing.json").read_text())
 
 
 @pytest.fixture(scope="module")
@@ -65,9 +58,9 @@ def folder(tmp_path_factory):
     return folder
 
 
-@pytest.fixture(params=CASES)
+@pytest.fixture(params=FAILING["programs"])
 def case(request, programs, folder):
-    words, given = CASES[request.param]
+    words, given = FAILING["programs"][request.param]
     name, *words = filled(words, examples=TOP / "examples", data=DATA, folder=folder).split()
     given = (TOP / given).read_bytes() if given else b""
     return Case([programs / name, *words], given)
@@ -177,9 +170,6 @@ def test_a_small_stack_for_all_calls(refused):
 
 # ---- system calls, and standard streams
 
-ERRORS = {"mmap": "ENOMEM", "mremap": "ENOMEM", "openat": "EACCES", "read": "EIO", "write": "ENOSPC", "close": "EIO"}
-
-
 def injecting(name, error, number):
     return ["strace", "-qq", "-o", "/dev/null", "-e", f"inject={name}:error={error}:when={number}"]
 
@@ -190,20 +180,19 @@ def calls_of(case, folder):
     case.run(["strace", "-qq", "-o", str(folder / "trace")])
     calls = re.findall(r"^(\w+)\((.*)", (folder / "trace").read_text(errors="replace"), re.M)
     names, begun = [name for name, _ in calls], next(at for at, call in enumerate(calls) if "SIGPIPE" in call[1]) + 1
-    return {name: (names[:begun].count(name), names.count(name)) for name in ERRORS}
+    return {name: (names[:begun].count(name), names.count(name)) for name in FAILING["calls"]}
 
 
 @traced
-@pytest.mark.parametrize("name", ERRORS)
-def test_each_system_call_fails(case, folder, name):
+@pytest.mark.parametrize("name, error, message", [(name, *row) for name, row in FAILING["calls"].items()])
+def test_each_system_call_fails(case, folder, name, error, message):
     """The program must print the message for what failed. If a call for memory or `close` fails, the run may also be
     normal."""
     loader, last = calls_of(case, folder)[name]
-    message = {"openat": b"R16", "read": b"R16", "write": b"P1"}.get(name, b"no memory")
     for number in range(loader + 1, last + 1):
-        result = case.run(injecting(name, ERRORS[name], number))
-        is_well = result == case.well and name not in ("openat", "read", "write")
-        assert is_well or case.stopped(result, message, nothing=name not in ("read", "write")), number
+        result = case.run(injecting(name, error, number))
+        is_well = result == case.well and message == "no memory"
+        assert is_well or case.stopped(result, message.encode(), nothing=name not in ("read", "write")), number
 
 
 def test_bad_streams(case, folder):
@@ -257,14 +246,7 @@ def test_streams_that_do_not_block(case):
 # ---- servers
 
 TURNS = 3
-# For each transport, the system calls on a socket, each with the error and the server's message if it fails.
-NETWORK = {
-    "udp": {"socket": ("EMFILE", "bind"), "bind": ("EADDRINUSE", "bind"), "recvfrom": ("ENOMEM", "U1"),
-            "sendto": ("ENOBUFS", "U2")},
-    "tcp": {"socket": ("EMFILE", "bind"), "bind": ("EADDRINUSE", "bind"), "listen": ("EADDRINUSE", "bind"),
-            "accept4": ("EMFILE", "accept"), "recvfrom": ("ENOMEM", "S1"), "sendto": ("ENOBUFS", "S2")}}
-# The system calls with which a server examines a socket that it is given.
-GIVEN = {"fcntl": ("EMFILE", "bind"), "getsockname": ("ENOBUFS", "bind")}
+each_transport = pytest.mark.parametrize("transport", ["udp", "tcp"])
 
 
 def serving(programs, name, transport, turns=TURNS, zone=EXAMPLE, **how):
@@ -290,18 +272,16 @@ def ask(server, times):
     return answered
 
 
-server_and_transport = pytest.mark.parametrize("name, transport", [
-    (name, transport) for name in ("zoneserve", "zonesocket") for transport in NETWORK])
+each_server = pytest.mark.parametrize("name", ["zoneserve", "zonesocket"])
 
 
 @traced
-@server_and_transport
+@each_server
+@each_transport
 def test_each_call_on_a_socket_fails(programs, name, transport):
     """If the server can't begin to serve, it must end with `bind`. Otherwise it must report the call, count the turn,
     and serve the other turns."""
-    for call, (error, message) in {**NETWORK[transport], **GIVEN}.items():
-        if message == "bind" and (name == "zonesocket") != (call in GIVEN):
-            continue
+    for call, (error, message) in FAILING["sockets"][f"{name} {transport}"].items():
         # The first send over UDP at a given socket only examines this socket, and is repeated.
         examines = (name, transport, call) == ("zonesocket", "udp", "sendto")
         for number in [1] if message == "bind" else range(1, TURNS + 1 + examines):
@@ -317,7 +297,8 @@ def test_each_call_on_a_socket_fails(programs, name, transport):
 
 
 @traced
-@server_and_transport
+@each_server
+@each_transport
 @pytest.mark.parametrize("number", range(1, TURNS + 2))
 @pytest.mark.parametrize("call", ["recvfrom", "sendto"])
 def test_a_call_is_interrupted(programs, name, transport, call, number):
@@ -326,7 +307,7 @@ def test_a_call_is_interrupted(programs, name, transport, call, number):
         assert (ask(server, TURNS), ended(server)) == (TURNS, (0, []))
 
 
-@pytest.mark.parametrize("transport", NETWORK)
+@each_transport
 def test_a_given_socket_that_does_not_block(programs, transport):
     """The server waits for questions all the same, and leaves the socket non-blocking."""
     with bound({"udp": socket.SOCK_DGRAM, "tcp": socket.SOCK_STREAM}[transport], ADDRESS) as given:
@@ -360,7 +341,7 @@ def starved(programs, name, transport, turns, refusing):
 
 
 @compiled
-@pytest.mark.parametrize("name", ["zoneserve", "zonesocket"])
+@each_server
 def test_a_starved_server_over_udp(programs, refusing, name):
     """Its replies are as usual."""
     queries, replies, _ = recorded("udp")
@@ -373,7 +354,7 @@ def test_a_starved_server_over_udp(programs, refusing, name):
 
 
 @compiled
-@pytest.mark.parametrize("name", ["zoneserve", "zonesocket"])
+@each_server
 def test_a_starved_server_over_tcp(programs, refusing, name):
     """A connection that there is no memory for is closed at once, with `accept`; one that is served gets its
     replies."""
