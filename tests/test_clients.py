@@ -19,7 +19,7 @@ import pytest
 from servers import (DATA, LIBEXEC, TOP, Serving, asking, asks, bound, connected, frame_of, framed, other, query,
                      questions, run, until)
 
-HERE, PORT, SOCKET_PORT, BELOW = "127.0.0.1", 5399, 5398, "127.0.0.53"
+HERE, PORT, SOCKET_PORT, RESOLVER, BELOW = "127.0.0.1", 5399, 5398, 5397, "127.0.0.53"
 ADDRESS = (HERE, PORT)
 ZONE = DATA / "served.zone"
 QUESTION = query("www.example")
@@ -29,8 +29,8 @@ def zoneserve(programs, transport, zone=ZONE, origin="example", address=ADDRESS,
     return Serving(programs / "zoneserve", transport, zone, origin, address, **how)
 
 
-def zonesocket(programs, zone=ZONE, address=(HERE, SOCKET_PORT)):
-    return Serving(programs / "zonesocket", "tcp", zone, "example", address)
+def zonesocket(programs, zone=ZONE, address=(HERE, SOCKET_PORT), transport="tcp", **how):
+    return Serving(programs / "zonesocket", transport, zone, "example", address, **how)
 
 
 def resident(server):
@@ -207,13 +207,8 @@ def test_dnsperf_loses_nothing(programs, tmp_path):
             assert re.search(r"Queries lost:\s+0 ", said), said
 
 
-def resolving(name, folder, own, port):
-    """Runs a resolver at port `own`, which asks the server at `port` about names in the zone."""
-    return other(name, folder, address=(HERE, port), own=own)
-
-
-def resolved(name, port=5397, *words):
-    """The addresses of a name by the resolver, or by the server at another port."""
+def resolved(name, *words, port=RESOLVER):
+    """The addresses of a name by a resolver, which asks a server about the zone; or by a server at another port."""
     return ask_by("dig", "+short", "+tries=3", *words, name, "A", port=port).split()
 
 
@@ -225,12 +220,12 @@ def test_a_resolver(programs, tmp_path, name):
     zone = tmp_path / "zone"
     zone.write_text(ZONE.read_text() + "".join(f"*.large A 192.0.2.{number}\n" for number in range(1, 41)))
     with zoneserve(programs, "udp", zone, address=(HERE, 5390)), zonesocket(programs, zone, (HERE, 5390)), \
-            resolving(name, tmp_path, 5397, 5390) as resolver:
+            other(name, tmp_path, address=(HERE, 5390), own=RESOLVER) as resolver:
         assert until(lambda: resolved("www.example.") == ["192.0.2.80"], 20) and resolver.poll() is None
         for turn in range(3):
             assert len(resolved(f"{turn}.large.example.")) == 40
             begun = time.monotonic()
-            assert resolved("www.example.", 5390, *WITHOUT_EDNS) == ["192.0.2.80"]
+            assert resolved("www.example.", *WITHOUT_EDNS, port=5390) == ["192.0.2.80"]
             assert time.monotonic() - begun < 0.5
 
 
@@ -240,7 +235,7 @@ def test_a_resolver(programs, tmp_path, name):
 def test_a_delegation(programs, tmp_path):
     below = DATA / "below.zone"
     with zoneserve(programs, "udp"), zoneserve(programs, "udp", below, "sub.example", (BELOW, 53)), \
-            resolving("unbound", tmp_path, 5397, PORT):
+            other("unbound", tmp_path, address=ADDRESS, own=RESOLVER):
         assert until(lambda: resolved("www.example.") == ["192.0.2.80"], 20)
         assert "192.0.2.99" in resolved("www.sub.example.") and "192.0.2.99" in resolved("deep.example.")
 
@@ -277,23 +272,20 @@ def test_units(tmp_path):
 
 # ---- many connections to zonesocket
 
-MANY, ORIGIN = (HERE, 5391), "example.com"
-TEXT = "".join(f'large TXT "{number:02}{"x" * 250}" "{"y" * 255}" "{"z" * 255}" "{"z" * 200}"\n'
-               for number in range(62))
-MANY_ZONE = ("$TTL 60\n@ SOA ns h 1 2 3 4 5\n@ NS ns\nns A 192.0.2.1\nwww A 192.0.2.2\nalias CNAME www\n"
-             f"*.w TXT \"any\"\n{TEXT}")
+MANY = HERE, 5391
+LARGE = query("large.example", "TXT")
 MESSAGES = [
-    query("www.example.com"), query("WWW.example.com"), query("nope.example.com"), query("alias.example.com"),
-    query("x.w.example.com", "TXT"), query("large.example.com", "TXT"), query("example.com", "NS"),
-    query("example.org"),
-    query("www.example.com")[:11], b"", query("www.example.com")[:20], query("www.example.com") + bytes(3),
-    query("www.example.com") + bytes(60_000), b"\x00\x01\x80" + bytes(20), bytes(12), query("www.example.com", "ANY")]
+    QUESTION, query("WWW.example"), query("nope.example"), query("alias.example"), query("x.wild.example", "TXT"), LARGE,
+    query("example", "NS"), query("example.org"), query("www.example", "ANY"), QUESTION[:11], b"", QUESTION[:20],
+    QUESTION + bytes(3), QUESTION + bytes(60_000), b"\x00\x01\x80" + bytes(20), bytes(12)]
 
 
 @pytest.fixture(scope="module")
 def zone(tmp_path_factory):
+    """The zone with a reply of 64 KB."""
     file = tmp_path_factory.mktemp("zone") / "zone"
-    file.write_text(MANY_ZONE)
+    more = (f'large TXT "{number:02}{"x" * 250}" "{"y" * 255}" "{"z" * 255}" "{"z" * 200}"\n' for number in range(62))
+    file.write_text(ZONE.read_text() + "".join(more))
     return file
 
 
@@ -301,12 +293,8 @@ def zone(tmp_path_factory):
 def replies(programs, zone):
     """The octets that each message gets, by the program that is proved to give them."""
     lines = "".join(message.hex() + "\n" for message in MESSAGES)
-    said = run(programs / "zoneserve", "once", "--tcp", ORIGIN, zone, input=lines, check=True).stdout.split()
+    said = run(programs / "zoneserve", "once", "--tcp", "example", zone, input=lines, check=True).stdout.split()
     return [b"" if line == "none" else framed(bytes.fromhex(line)) for line in said]
-
-
-def many(programs, zone, transport="tcp", **how):
-    return Serving(programs / "zonesocket", transport, zone, ORIGIN, MANY, **how)
 
 
 def send_in_pieces(client, stream, chance, is_half_closed):
@@ -342,7 +330,7 @@ def one_connection(number, replies):
     stream, wanted = b"".join(framed(MESSAGES[one]) for one in chosen), b"".join(replies[one] for one in chosen)
     ends = chance.choice(["close", "half", "cut"])
     if ends == "cut":
-        stream += framed(MESSAGES[0])[:chance.randrange(1, 20)]
+        stream += framed(QUESTION)[:chance.randrange(1, 20)]
     with connected(MANY, 30) as client:
         client.setsockopt(socket.SOL_SOCKET, socket.SO_RCVBUF, chance.choice([1 << 12, 1 << 20]))
         sending = client, stream, random.Random(-number - 1), ends != "close"
@@ -359,22 +347,22 @@ def one_connection(number, replies):
 
 @pytest.mark.parametrize("count", [600, pytest.param(10_000, marks=pytest.mark.slow)])
 def test_streams_cut_in_every_way(programs, zone, replies, count):
-    with many(programs, zone) as server, ThreadPoolExecutor(60) as pool:
+    with zonesocket(programs, zone, MANY) as server, ThreadPoolExecutor(60) as pool:
         assert not [*filter(None, pool.map(lambda number: one_connection(number, replies), range(count)))]
         assert server.end()[0] == 0
         assert set(server.said) <= {"S1", "S2", "S3"}
 
 
 def test_silent_and_slow_peers_end_after_ten_seconds(programs, zone):
-    with many(programs, zone) as server, contextlib.ExitStack() as stack:
+    with zonesocket(programs, zone, MANY) as server, contextlib.ExitStack() as stack:
         def connect():
             return stack.enter_context(connected(MANY, 15))
         silent, half, drip, slow = (connect() for _ in range(4))
-        half.sendall(framed(MESSAGES[0])[:9])
+        half.sendall(framed(QUESTION)[:9])
         slow.setsockopt(socket.SOL_SOCKET, socket.SO_RCVBUF, 1 << 12)
-        slow.sendall(framed(query("large.example.com", "TXT")) * 200)
+        slow.sendall(framed(LARGE) * 200)
         begun = time.monotonic()
-        for octet in framed(MESSAGES[0])[:9]:
+        for octet in framed(QUESTION)[:9]:
             drip.send(bytes([octet]))
             time.sleep(0.9)
             assert asks_at_once()
@@ -387,39 +375,39 @@ def asks_at_once():
     """Whether another client is served at once."""
     begun = time.monotonic()
     with connected(MANY, 2) as client:
-        return asks(client, MESSAGES[0]) and time.monotonic() - begun < 0.5
+        return asks(client, QUESTION) and time.monotonic() - begun < 0.5
 
 
 def test_more_peers_than_places(programs, zone):
     """The one whose progress is oldest ends; one that asks now is served now."""
-    with many(programs, zone) as server, contextlib.ExitStack() as stack:
+    with zonesocket(programs, zone, MANY) as server, contextlib.ExitStack() as stack:
         peers = [stack.enter_context(connected(MANY, 5)) for _ in range(256)]
         assert until(asks_at_once)
         assert frame_of(peers[0]) is None
-        assert all(asks(peer, MESSAGES[0]) for peer in peers[-50:])
+        assert all(asks(peer, QUESTION) for peer in peers[-50:])
         more = [stack.enter_context(connected(MANY, 5)) for _ in range(100)]
-        assert asks_at_once() and asks(more[-1], MESSAGES[0])
+        assert asks_at_once() and asks(more[-1], QUESTION)
         assert server.end()[0] == 0
 
 
 def test_a_peer_that_resets(programs, zone):
-    with many(programs, zone) as server:
+    with zonesocket(programs, zone, MANY) as server:
         with connected(MANY) as other:
             for _ in range(50):
                 client = connected(MANY)
-                client.sendall(framed(query("large.example.com", "TXT")) * 5)
+                client.sendall(framed(LARGE) * 5)
                 client.setsockopt(socket.SOL_SOCKET, socket.SO_LINGER, struct.pack("ii", 1, 0))
                 client.close()
-            assert asks(other, MESSAGES[0]) and asks_at_once()
+            assert asks(other, QUESTION) and asks_at_once()
         assert server.end()[0] == 0
 
 
 def test_few_descriptors(programs, zone):
     """A connection that can't be accepted does not stop the others."""
     limit = lambda: resource.setrlimit(resource.RLIMIT_NOFILE, (20, 20))  # noqa: E731
-    with many(programs, zone, preexec_fn=limit) as server, contextlib.ExitStack() as stack:
+    with zonesocket(programs, zone, MANY, preexec_fn=limit) as server, contextlib.ExitStack() as stack:
         peers = [stack.enter_context(connected(MANY)) for _ in range(30)]
-        assert asks(peers[0], MESSAGES[0])
+        assert asks(peers[0], QUESTION)
         for peer in peers[1:20]:
             peer.close()
         assert until(asks_at_once, 10)
@@ -427,17 +415,17 @@ def test_few_descriptors(programs, zone):
 
 
 def test_end_on_request(programs, zone):
-    with many(programs, zone) as server, connected(MANY) as client, connected(MANY) as silent:
-        assert asks(client, MESSAGES[0])
-        client.sendall(framed(MESSAGES[0]) * 100)
+    with zonesocket(programs, zone, MANY) as server, connected(MANY) as client, connected(MANY) as silent:
+        assert asks(client, QUESTION)
+        client.sendall(framed(QUESTION) * 100)
         begun = time.monotonic()
         server.run.stdout.close()
-        assert all(frame_of(client)[:2] == MESSAGES[0][:2] for _ in range(100)) and frame_of(client) is None
+        assert all(frame_of(client)[:2] == QUESTION[:2] for _ in range(100)) and frame_of(client) is None
         assert frame_of(silent) is None
         assert server.end() == (0, []) and time.monotonic() - begun < 4.5
-    with many(programs, zone, "udp") as server, asking(MANY) as client:
-        client.send(MESSAGES[0])
-        assert client.recv(512)[:2] == MESSAGES[0][:2]
+    with zonesocket(programs, zone, MANY, "udp") as server, asking(MANY) as client:
+        client.send(QUESTION)
+        assert client.recv(512)[:2] == QUESTION[:2]
         begun = time.monotonic()
         assert server.end() == (0, []) and time.monotonic() - begun < 1
 
@@ -445,7 +433,7 @@ def test_end_on_request(programs, zone):
 def test_a_file_or_a_terminal_never_ends_it(programs, zone, tmp_path):
     for output in [open(tmp_path / "said", "wb"), open(os.openpty()[1], "wb")]:
         with output, bound(socket.SOCK_STREAM, MANY) as given:
-            server = subprocess.Popen([programs / "zonesocket", "tcp", "2", ORIGIN, zone], stdin=given, stdout=output)
+            server = subprocess.Popen([programs / "zonesocket", "tcp", "2", "example", zone], stdin=given, stdout=output)
             assert until(asks_at_once)
             time.sleep(0.5)
             assert server.poll() is None and asks_at_once()
@@ -454,7 +442,7 @@ def test_a_file_or_a_terminal_never_ends_it(programs, zone, tmp_path):
 
 def test_sockets_that_are_not_served(programs, zone):
     def said(given, transport):
-        done = run(programs / "zonesocket", transport, "1", ORIGIN, zone, stdin=given)
+        done = run(programs / "zonesocket", transport, "1", "example", zone, stdin=given)
         return done.returncode, done.stderr.strip()
     with contextlib.ExitStack() as stack:
         udp, tcp = (stack.enter_context(bound(kind, MANY)) for kind in (socket.SOCK_DGRAM, socket.SOCK_STREAM))
