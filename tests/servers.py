@@ -1,5 +1,6 @@
 """Servers, sockets, queries and a large zone, for tests and benches."""
 import contextlib
+import json
 import os
 import re
 import resource
@@ -169,8 +170,7 @@ class Workers:
 
     def processes(self, transport=""):
         """The ids of the workers of a transport, or of all workers."""
-        listed = subprocess.run(["ps", "-o", "pid=,args=", "--ppid", str(self.run.pid)], capture_output=True,
-                                text=True).stdout
+        listed = run("ps", "-o", "pid=,args=", "--ppid", self.run.pid).stdout
         return sorted(int(line.split()[0]) for line in listed.splitlines() if f"zonesocket {transport}" in line)
 
 
@@ -221,17 +221,7 @@ class Serving:
 
 # Other servers and resolvers, by their programs: the settings in tests/data, the command, and the one that reloads the
 # zone, if any. The words in capitals stand for what `prepared` gets.
-OTHERS = {
-    "nsd": ("nsd.conf", "nsd -d -c CONF", "nsd-control -c CONF reload ORIGIN"),
-    "knotd": ("knot.conf", "knotd -c CONF", "knotc -b -s FOLDER/knot.sock zone-reload ORIGIN"),
-    "named": ("named.conf", "named -f -4 -n WORKERS -c CONF", ""),
-    "pdns_server": ("powerdns.conf", "pdns_server --no-config --launch=bind --bind-config=CONF --local-address=HERE "
-                    "--local-port=PORT --socket-dir=FOLDER --daemon=no --guardian=no --security-poll-suffix= "
-                    "--receiver-threads=WORKERS", ""),
-    "unbound": ("unbound.conf", "unbound -d -c CONF", ""),
-    "pdns_recursor": ("recursor.conf", "pdns_recursor --config-dir=FOLDER", ""),
-    "kresd": ("kresd.conf", "kresd -n -q -c CONF FOLDER", ""),
-}
+OTHERS = json.loads((DATA / "peers.json").read_text())["servers"]
 RIVALS = ["nsd", "knotd", "named"]
 
 

@@ -34,10 +34,7 @@ def commands(block):
 @pytest.fixture
 def examples(tmp_path):
     """A copy of examples/, in which the commands of some pages run."""
-    folder = tmp_path / "examples"
-    shutil.copytree(TOP / "examples", folder)
-    for other in ("tests", "bench"):
-        shutil.copytree(TOP / other, tmp_path / other)
+    folder = shutil.copytree(TOP / "examples", tmp_path / "examples")
     for name in ("old.zone", "new.zone"):
         shutil.copy(folder / "example.zone", folder / name)
     (folder / "query").write_text("12340000000100000000000003777777076578616d706c650000010001\n")
@@ -54,10 +51,9 @@ def test_commands_print_what_pages_say(programs, examples, page):
             if any(need in command and not shutil.which(need) for need in NEEDED):
                 break
             if page not in MANUAL or not re.search("zoneserve udp|zonecompare|^dig", command):
-                words = [os.environ["RUNNER"], command] if "RUNNER" in os.environ else ["bash", "-c", command]
-                done = subprocess.run(words, cwd=examples if is_apart else TOP, stdin=subprocess.DEVNULL,
-                                      stdout=subprocess.PIPE,
-                                      stderr=subprocess.STDOUT, text=True, errors="replace")
+                shell = [os.environ["RUNNER"]] if "RUNNER" in os.environ else ["bash", "-c"]
+                done = run(*shell, f"exec 2>&1; {command}", cwd=examples if is_apart else TOP, stdin=subprocess.DEVNULL,
+                           errors="replace")
                 assert done.stdout == wanted, command
 
 
