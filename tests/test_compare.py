@@ -69,7 +69,6 @@ class Small:
         question = query.question[0].name.to_text(), dns.rdatatype.to_text(query.question[0].rdtype)
         self.asked.append(question)
         if query.edns >= 0 and not self.edns:
-            reply = dns.message.make_response(query)
             reply.use_edns(False)
             reply.set_rcode(dns.rcode.FORMERR)
             return [reply.to_wire()]
