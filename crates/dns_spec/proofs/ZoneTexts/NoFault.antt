@@ -1,8 +1,8 @@
 -- A text that means records has no fault.
-use Rattle.dns_spec.proofs.Common.{◌≡◌, ℕ, zero, suc, ◌+◌, ◌-◌, ◌<◌, inl, inr, Bool, true, false, List, [], ◌∷◌, ◌++◌, length, take, drop, refl, sym, ap, ap₂, ◌∙◌, subst, arith, Option, Some, None, DomainName, Octets, ResourceRecord, most_octets, Token, cut_entries, Extent, extent_by, EntriesOf, Entry, ended, with_end, FileFault, bad_parenthesis, faulty, gives, EntryGives, Meaning, records, fault_at, after, EntriesMean, Means, OctetsMean, PlacedToken, Ending, after_line, at_parenthesis, at_stop, text_after, placed_entry, read_entry, entries_from, PlacedEntry, EntriesGive, AllFaults, false≢true}
+use Rattle.dns_spec.proofs.Common.{◌≡◌, ℕ, zero, suc, ◌+◌, ◌-◌, ◌<◌, inl, inr, Bool, true, false, List, [], ◌∷◌, ◌++◌, length, take, drop, refl, sym, ap, ap₂, ◌∙◌, subst, arith, Some, None, DomainName, Octets, ResourceRecord, most_octets, cut_entries, Extent, extent_by, EntriesOf, Entry, ended, with_end, FileFault, bad_parenthesis, faulty, gives, EntryGives, Meaning, records, fault_at, EntriesMean, Means, OctetsMean, PlacedToken, Ending, after_line, at_parenthesis, at_stop, text_after, placed_entry, read_entry, entries_from, PlacedEntry, EntriesGive, AllFaults, false≢true}
 use Rattle.dns_spec.proofs.ZoneTexts.TextTokens.{has_tokens, tokens_cut}
 use Rattle.dns_spec.proofs.ZoneTexts.EntryReading.{ReadsWell, tokens_of, reads_well}
-use Rattle.dns_spec.proofs.ZoneTexts.FirstFault.{FirstEntry, WrongEntry, ended_first, stop_only, wrong_entry, extent, Lexical, none_given, lexical_stop, stops, goes_on}
+use Rattle.dns_spec.proofs.ZoneTexts.FirstFault.{ended_first, stop_only, wrong_entry, extent, Lexical, none_given, lexical_stop, stops, goes_on}
 use Rattle.dns_spec.proofs.ZoneTexts.OneMeaning.{tokens_once}
 
 entries_once : (x : Extent) (text : Octets) (es fs : List Entry)
@@ -95,9 +95,16 @@ module _ (o : DomainName) (octets past : Octets) where
           let first = first_sound earlier text (ended (tokens_of ps)) es rs
           (ended_first x text rest (tokens_of ps) es read are) mean in
           let less = read.shorter in
-          inr (first.own, inl first.given, (first.later, first.is,
-          walks (ended (tokens_of ps) ∷ earlier) rest first.later (omega (arith, less, few))
-          (es, are, first.more)))
+          inr (
+            first.own,
+            inl first.given,
+            (
+              first.later,
+              first.is,
+              walks (ended (tokens_of ps) ∷ earlier) rest first.later (omega (arith, less, few))
+                  (es, are, first.more),
+            ),
+          )
       by_case (ps, at_parenthesis place) read walks =
           let wrong = wrong_entry x text (tokens_of ps) read in
           not_lexical earlier text wrong.entry wrong.first.others rs wrong.first.are mean
@@ -105,10 +112,13 @@ module _ (o : DomainName) (octets past : Octets) where
       by_case (ps, at_stop now []) read walks =
           let first = first_sound earlier text _ [] rs
           (stop_only x text [] (tokens_of ps) now read) mean in
-          inr (first.own, inl first.given, (first.later, first.is, (refl, same_records _ [] first.more)))
+          let none = same_records _ [] first.more in
+          inr (first.own, inl first.given, (first.later, first.is, (refl, none)))
       by_case (ps, at_stop now (c ∷ rest)) read walks =
-          not_lexical earlier text _ [] rs (stop_only x text (c ∷ rest) (tokens_of ps) now read)
-          mean (lexical_stop o octets past [] (tokens_of ps) _ (stops o octets past [] now c rest))
+          let only = stop_only x text (c ∷ rest) (tokens_of ps) now read in
+          let stop = stops o octets past [] now c rest in
+          not_lexical earlier text _ [] rs only mean
+          (lexical_stop o octets past [] (tokens_of ps) _ stop)
 
 -- A text that means records has no fault, and its entries give these records.
 pub no_fault : (o : DomainName) (text : Octets) (rs : List ResourceRecord)
