@@ -4,6 +4,7 @@ mod LastArguments
 mod ClapOptions
 mod CheckedZone
 mod PrintedLines
+mod Listing
 pub mod LineDigits
 pub mod KeptLines
 pub mod LineRuns

@@ -5,6 +5,7 @@ pub mod Stops
 pub mod Arguments
 pub mod ClapCommands
 pub mod Checked
+pub mod Listed
 pub mod Sockets
 pub mod Turns
 pub mod KeptLine

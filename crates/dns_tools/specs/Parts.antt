@@ -4,19 +4,21 @@ use Rattle.std.specs.List.{flat_map}
 use Rattle.dns_spec.specs.Names.{Octets}
 use Rattle.dns_spec.specs.NameText.{name_text}
 use Rattle.dns_spec.specs.TypeText.{type_text}
+use Rattle.dns_spec.specs.AllFaults.{number_text}
 use Rattle.dns_spec.specs.WrittenText.{hex_text, data_text}
 use Rattle.dns_spec.specs.Report.{two_digits, bare_name_text}
 use Rattle.dns_spec.specs.Layout.{octets16}
 use Rattle.dns_spec.specs.MessageLines.{class_text}
 use Rattle.dns_wire.specs.Read.{data_type}
 use Rattle.dns_tools.specs.declared.parts.LinePart.{LinePart}
-use Rattle.dns_tools.specs.declared.parts.LinePart.TheVariants.{Text, Number, Hex, Code, Name, BareName, Class, TypeName, Data}
+use Rattle.dns_tools.specs.declared.parts.LinePart.TheVariants.{Text, Number, Hex, Code, DottedNumber, Name, BareName, Class, TypeName, Data}
 
 abbrev pub part_text : LinePart → Octets
 part_text (Text text) = text.now
 part_text (Number number) = decimal number
 part_text (Hex number) = hex_text (octets16 number)
 part_text (Code code) = two_digits code
+part_text (DottedNumber number) = number_text number
 part_text (Name name) = name_text name.now
 part_text (BareName name) = bare_name_text name.now
 part_text (Class class) = class_text class

@@ -6,6 +6,7 @@ mod arguments;
 mod check;
 mod epoll;
 mod fault;
+mod faults;
 mod line;
 mod listen;
 mod load;
@@ -26,6 +27,7 @@ pub use epoll::{Connection, Epoll};
 pub use fault::{
     FAULT_STATUS, FaultWord, Outcome, Stop, TurnWord, end_of, exit_status, status_of_turns,
 };
+pub use faults::list_faults;
 pub use listen::{Ending, given_listener, given_socket, listener_at, serve_datagrams, socket_at};
 pub use load::{LoadFault, Refusal, load_zone, write_refusal};
 pub use message::run_message;

@@ -1,5 +1,6 @@
 //! Lines of output, assembled from texts, numbers, names and data.
 ghost use Rattle.std.specs.Prelude.{◌≡◌, ◌+◌, ◌-◌, ◌^◌, ◌<◌, ◌≤◌, ◌++◌, length, decimal};
+ghost use Rattle.dns_spec.specs.AllFaults.{number_text};
 ghost use Rattle.dns_spec.specs.Layout.{octets16};
 ghost use Rattle.dns_spec.specs.MessageLines.{class_text};
 ghost use Rattle.dns_spec.specs.Report.{two_digits};
@@ -29,6 +30,8 @@ pub(crate) enum LinePart<'a> {
     Hex(u16),
     /// The two decimal digits of a code.
     Code(u8),
+    /// A dot and a number in decimal, or nothing.
+    DottedNumber(Option<u8>),
     /// A name with a dot after each label.
     Name(&'a Name),
     /// A name without its final dot.
@@ -77,6 +80,7 @@ impl LinePart<'_> {
             LinePart::Number(number) => text.append(Buffer::new().format(*number).as_bytes()),
             LinePart::Hex(number) => text.append(hex_of(*number).as_slice()),
             LinePart::Code(code) => text.append(&[b'0' + *code / 10, b'0' + *code % 10]),
+            LinePart::DottedNumber(number) => append_dotted(*number, text),
             LinePart::Name(name) => name.lent().append_text(text),
             LinePart::BareName(name) => name.append_bare_text(text),
             LinePart::Class(class) => append_class(*class, text),
@@ -87,6 +91,16 @@ impl LinePart<'_> {
             }
         }
         Ok(())
+    }
+}
+
+fn append_dotted(number: Option<u8>, text: &mut TextBuffer)
+    requires { length text.old + 1020 ≤ 4096 }
+    ensures { text.new ≡ text.old ++ number_text number }
+{
+    if let Some(number) = number {
+        text.append(b".");
+        text.append(Buffer::new().format(number).as_bytes());
     }
 }
 

@@ -1,0 +1,31 @@
+use Rattle.std.specs.Vec.{vec_len}
+use Rattle.dns_tools.proofs.Common.{◌≡◌, ◌==◌, length, arith, ap, sym, ◌∙◌}
+use Rattle.dns_tools.proofs.Listing.{file_list, file_begun, file_listed, first_empty, first_full}
+use Rattle.dns_tools.proofs.faults.list_file.Goals.{then-is_empty, else-is_empty}
+use Rattle.dns_tools.proofs.faults.list_file.Goals as goal
+
+pub returns-in_err-write_list-clause-report : goal.returns-in_err-write_list-clause-report
+returns-in_err-write_list-clause-report g c =
+    let stopped = c.from_residual-in_err-write_list in
+    file_begun _ _ stopped.result
+    (file_list c.args.origin.now c.fold.result c.args.text.now c.in_ok-list.list _ _ _ _
+    c.fold.ensures c.new-store.ensures c.in_ok-list.ensures c.in_ok-zone_faults.ensures.ok
+    (λ found z is e. c.as_slice.ensures.value ∙ c.listed-zone.ensures found z is e))
+    stopped.ensures.1 c.in_err-write_list.ensures.err
+
+pub returns-clause-report : goal.returns-clause-report
+returns-clause-report g c =
+    let faults = c.in_ok-list.list.faults in
+    let count : vec_len faults ≡ length faults.items = omega (arith, faults.ok.0) in
+    let first = c.is_empty.ensures ∙ ap (λ n. n == 0) count in
+    file_listed _ _ c.if-is_empty.result
+    (file_list c.args.origin.now c.fold.result c.args.text.now c.in_ok-list.list _ _ _ _
+    c.fold.ensures c.new-store.ensures c.in_ok-list.ensures c.in_ok-zone_faults.ensures.ok
+    (λ found z is e. c.as_slice.ensures.value ∙ c.listed-zone.ensures found z is e))
+    (elim c.if-is_empty.branch [
+      | then-is_empty w ↦ first_empty _ _ first w.if-is_empty.true
+          (w.is_empty-then-is_empty.ensures ∙ ap (λ n. n == 0) (sym c.as_slice.ensures.len))
+          w.result-is
+      | else-is_empty w ↦ first_full _ _ first w.if-is_empty.false w.result-is
+    ])
+    c.in_ok-write_list.ensures.ok
