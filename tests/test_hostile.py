@@ -1,6 +1,7 @@
-"""Randomly changed datagrams, zone files and messages, by fixed seeds: what zoneserve, zonecheck and dnsmsg print is
-compared with what plain programs say. The reader of zone files is plain_faults.py; the server is here."""
+"""Randomly changed datagrams, zone files and messages, by fixed seeds: what zoneserve, zonecheck, zonefaults and
+dnsmsg print is compared with what plain programs say. The reader of zone files is plain_faults.py; the server is here."""
 import itertools
+import json
 import os
 import random
 import re
@@ -321,6 +322,56 @@ def test_zone_files(programs, tmp_path, count):
         run = subprocess.run([programs / "zonecheck", origin, file], capture_output=True, timeout=20)
         wanted, status, _ = checked(text, tuple(label.encode().lower() for label in origin.split(".")))
         assert (run.stdout.decode("latin-1"), run.returncode, run.stderr) == (wanted, status, b""), (origin, text)
+
+
+# ---- all faults of a file
+
+HEAD = b"$TTL 60\n@ SOA ns h 1 2 3 4 5\n@ NS ns\nns A 192.0.2.1\n"
+# An entry for each fault and each form of it. Of some the fault is in a word, of some between words, of some at an end.
+FAULTY = [
+    b"a A \x00\n", b"a TXT x\\\n", b'a TXT "x\n', b"a A ( 192.0.2.1 (\n", b")\n", b"a A (\n", b"$INCLUDE x\n", b"$TTL 1h\n",
+    b"$TTL\n", b"$TTL 5 6\n", b"$ORIGIN a..b\n", b'$ORIGIN "x"\n', b"a..b A 192.0.2.1\n", b'"a" A 192.0.2.1\n',
+    b"w" * 64 + b" A 192.0.2.1\n", b"a 1h A 192.0.2.1\n", b"a IN 010 A 192.0.2.1\n", b"a CH A 192.0.2.1\n",
+    b"a 5 CLASS2 A 192.0.2.1\n", b"a 5\n", b"a MXX 1\n", b"a TYPE41 \\# 0\n", b"a A 192.0.2.1 x\n", b"a MX x h\n",
+    b"a A 192.0.2.300\n", b"a AAAA ::x\n", b"a NS b..c\n", b"a TXT " + b"x" * 256 + b"\n", b"a TYPE65280 x\n",
+    b"a A \\# 1 00\n", b"a MX \\# 3 00 0\n", b"a CNAME b\na A 192.0.2.1\n", b" ; x\n 5 A 192.0.2.9\n"]
+
+
+def faulty_texts():
+    """The texts of tests/data with faults, as they are and after one another."""
+    cases = json.loads((TOP / "tests" / "data" / "faults.json").read_text())
+    lines = [row[2].encode("latin-1") + b"\n" for row in cases["lines"]]
+    yield from (row[-2].encode("latin-1") for row in (*cases["files"], *cases["reports"]))
+    for first, second in zip(lines, lines[1:] + lines[:1]):
+        yield from (HEAD + first + second, second + HEAD + first)
+
+
+def pairs_of_faults(step):
+    """Each entry of FAULTY with each other one, in three ways."""
+    for first, second in list(itertools.product(FAULTY, FAULTY))[::step]:
+        yield from (HEAD + first + second, first + HEAD + second, HEAD + first + b" A 192.0.2.7\n" + second)
+
+
+def changed_texts(count):
+    texts = [path.read_bytes() for folder in ("examples", "tests/data") for path in sorted((TOP / folder).glob("*.zone"))]
+    chance = random.Random(2)
+    return (changed(chance, changed(chance, chance.choice(texts), WORDS), WORDS) for _ in range(count))
+
+
+@pytest.mark.parametrize("texts", [
+    faulty_texts, lambda: pairs_of_faults(10), lambda: changed_texts(500),
+    pytest.param(lambda: pairs_of_faults(1), marks=slow), pytest.param(lambda: changed_texts(5_000), marks=slow)],
+    ids=["data", "pairs", "changed", "all pairs", "5,000 changed"])
+def test_all_faults(programs, tmp_path, texts):
+    """`zonefaults` lists for each text the faults that the plain program finds."""
+    file, faulty = tmp_path / "zone", 0
+    for text in texts():
+        file.write_bytes(text)
+        run = subprocess.run([programs / "zonefaults", "example", file], capture_output=True, timeout=20)
+        wanted = plain.report(text, ORIGIN)
+        assert (run.stdout.decode("latin-1"), run.returncode, run.stderr) == (wanted, int(wanted != ""), b""), text
+        faulty += wanted.count("\n") > 1
+    assert faulty > 100
 
 
 # ---- messages

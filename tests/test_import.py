@@ -88,7 +88,7 @@ def test_bind_reads_the_same(imported, lines):
 def test_lines_that_are_refused(imported, line, said):
     status, new, error = imported("example", "zone", text=f"{HEAD}b A 192.0.2.9\n{line}\n")
     assert (status, new) == (1, "") and said in error
-    faults = re.findall(r"^(\S+):(\d+): [RZ]", error, re.M)
+    faults = re.findall(r"^(\S+?):(\d+):(?:\d+:)? [RZ]", error, re.M)
     assert "cycle" in line or "chain" in line or faults == [("zone", "8")]
 
 
@@ -109,7 +109,7 @@ def test_other_inputs(imported):
     Path("parts").mkdir()
     Path("parts/part").write_text("a A 192.0.2.2\nb A 192.0.2.300\n")
     status, new, error = imported("--include-from", "parts", "example", "zone", text=HEAD + "$INCLUDE part\n")
-    assert status == 1 and "/parts/part:2: R13: " in "/" + error
+    assert status == 1 and "/parts/part:2:5: R13: " in "/" + error
     for words in (["example", "nowhere"], ["example"], ["a..b", "zone"]):
         status, new, error = imported(*words)
         assert (status, new) == (2, "") and error

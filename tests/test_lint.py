@@ -32,7 +32,7 @@ CASES = json.loads((DATA / "faults.json").read_text())
 
 def found_in(said, kinds="."):
     """The codes that were printed, each with its line."""
-    return [(code, int(line)) for line, code in re.findall(rf"^\S.*?:(\d+): ({kinds}\d\d): ", said, re.M)]
+    return [(code, int(line)) for line, code in re.findall(rf"^\S.*?:(\d+):(?:\d+:)? ({kinds}\d\d): ", said, re.M)]
 
 
 @pytest.fixture
@@ -107,7 +107,8 @@ def mistaken(sound, *cases):
 
 @pytest.mark.parametrize("step", [10, pytest.param(1, marks=pytest.mark.slow)])
 def test_mistakes_alone_and_in_pairs(lint, step):
-    """In a zone with two mistakes, all messages for either one alone are given too."""
+    """In a zone with two mistakes, all messages for either one alone are given too, but beside a faulty entry only the
+    faults of a zone that no further record removes."""
     def found(zones):
         for number, text in enumerate(zones):
             Path(f"z{number}").write_text(text)
@@ -130,7 +131,9 @@ def test_mistakes_alone_and_in_pairs(lint, step):
     pairs = [pair for pair in itertools.combinations(range(len(cases)), 2)
              if not belong(cases[pair[0]], cases[pair[1]])][::step]
     for (a, b), some in zip(pairs, found([mistaken(sound, cases[a], cases[b]) for a, b in pairs])):
-        assert alone[a] | alone[b] <= some, (cases[a][0], cases[b][0])
+        wanted, removable = alone[a] | alone[b], ("Z01", "Z04", "Z10")
+        wanted -= {one for one in wanted if one[0] in removable and any(code[0] == "R" for code, _ in some)}
+        assert wanted <= some, (cases[a][0], cases[b][0])
 
 
 NAMED = ["named-checkzone", "-i", "local", *(word for check in "kmMnrSTW" for word in (f"-{check}", "warn"))]
@@ -262,7 +265,7 @@ def read_forms(name):
     def unquoted(uri):
         return os.fsdecode(urllib.parse.unquote_to_bytes(uri))
 
-    github = re.findall(r"^::(?:error|warning) file=(.*),line=(\d+),title=([RZW]\d\d)::[^\n]+$", read("github"), re.M)
+    github = re.findall(r"^::(?:error|warning) file=(.*),line=(\d+),(?:col=.*,)?title=([RZW]\d\d)::[^\n]+$", read("github"), re.M)
     gitlab, sarif = json.loads(read("gitlab")), json.loads(read("sarif"))["runs"][0]["results"]
     places = [result["locations"][0]["physicalLocation"] for result in sarif]
     files = xml.etree.ElementTree.fromstring(read("checkstyle"))
@@ -335,10 +338,10 @@ def test_the_hook_of_git(lint, git):
         git("add", "example.com.zone")
         Path("example.com.zone").write_text(beside)
         done = run(TOP / "contrib" / "pre-commit")
-        assert done.returncode == wanted and ("example.com.zone:6: R13: " in done.stdout) == wanted
+        assert done.returncode == wanted and ("example.com.zone:6:5: R13: " in done.stdout) == wanted
     Path("example.com.zone").write_text(SERVED + "x A 192.0.2.256\n")
     git("add", "example.com.zone")
-    for listed, said in (("example example.com.zone\r\n", "example.com.zone:6: R13: "),
+    for listed, said in (("example example.com.zone\r\n", "example.com.zone:6:5: R13: "),
                          ("example example.zone\n", "zones lists 'example.zone' for example"), ("example\n", "''")):
         Path("zones").write_text(listed)
         done = run(TOP / "contrib" / "pre-commit")
@@ -352,9 +355,9 @@ def test_lines_of_files_in_the_form_of_bind(lint):
     Path("part").write_text("a A 192.0.2.2\nb A 192.0.2.300\n")
     text = GOOD.replace("$TTL 1h", "$TTL 1m") + '@ CAA 0 issue ";"\n$INCLUDE part\n$GENERATE 1-3 g$ A 192.0.2.25$\n'
     status, _, said = lint("example", "z", text=text)
-    assert status == 1 and re.findall(r"^(\w+:\d+: R\d\d)", said, re.M) == ["part:2: R13"]
-    found = lint("example", "z", text=SERVED + "$GENERATE 5-7 g$ A 192.0.2.25$\n@ NS sub\n")[1]
-    assert sorted(set(one for one in found if one[0][0] in "RZ")) == [("R13", 6), ("Z10", 7)]
+    assert status == 1 and re.findall(r"^(\w+:\d+:\d+: R\d\d)", said, re.M) == ["part:2:5: R13"]
+    found = lint("example", "z", text=SERVED + "$GENERATE 5-7 g$ A 192.0.2.25$\nb CNAME ns\nb A 192.0.2.2\n")[1]
+    assert sorted(set(one for one in found if one[0][0] in "RZ")) == [("R13", 6), ("Z06", 7), ("Z06", 8)]
 
 
 def seconds_of(words):

@@ -1,8 +1,6 @@
-"""Finds all faults of a zone with zonecheck, which decides, and says what to do about each.
+"""Finds all faults of a zone by zonefaults, which decides, and says what to do about each.
 
-zonecheck reports the first faulty entry of a file. Here this entry is corrected as the message for its fault says; if
-the right data is unknown, it gets sample data of its type. Then zonecheck checks the corrected text. So it checks the
-rest of the file as if the entry were correct.
+zonefaults gives the place of each faulty entry's fault, and the faults of the zone that no further record removes.
 """
 import collections
 import gc
@@ -18,40 +16,40 @@ from pathlib import Path
 
 import bind
 from master import LINES, Names, Reader, Record, Refused, address, escaped, name, read, refuse, split, twice, unique, within
-from mending import FORMS, Mending
+from remedies import FORMS, Remedy
 from reports import Report, plain
 
-MOST, EACH = 100, 5         # the most faults, and the most warnings of a code, that are reported as text for a file
+MOST, EACH = 100, 5         # the most faults, and the most of a code, that are reported as text for a file
 MOST_TEXT = 50000000        # the most octets of the canonical text, which does not take too much memory
-MOST_MENDED = 4000000       # the most octets of faulty entries, and of what corrects them
+MOST_RUNS = 20              # how often zonefaults may read a file
 FIELD = re.compile(r'"(?:[^"\\]|\\.)*"|(?:[^ "\\]|\\.)+')
-Fault = collections.namedtuple("Fault", "place code name text")
+SPOT = re.compile(r"^(\d+):(\d+)-(\d+):(\d+) (R\d\d)(?:\.(\d))?$", re.M)
+# A fault. `place` is a file and a line, and `span` the column where it begins and the line and column where it ends, or None.
+Fault = collections.namedtuple("Fault", "place code name text span", defaults=(None,))
+# A place and a code of zonefaults. Lines are counted from 0, and columns from 1.
+Spot = collections.namedtuple("Spot", "line column end_line end_column code number")
 
-
-# The messages of remedies that are sure.
-SURE = re.compile(r"the (?:class|TTL) is there twice|is written \d+ here|a byte order mark|a curly|an invisible character|a special|"
-                  r"a CR that is not|a control character|a quotation mark is not closed on its line: close it")
 # The faults that are limits of zonecheck and zoneserve alone, and what a note says of each.
 LIMITS = {"R14": "more than 100,000 records: the rest was not checked", "R15": "more than 16,777,216 octets: the rest was not checked",
           "Z14": "a set of more than 64 records", "Z15": "more than 32 types at a name"}
 BOM = "\xef\xbb\xbf"
 
 
-def zonecheck(origin, text, *options):
-    """The status and the report of zonecheck for a text."""
+def ask(program, origin, text, *options):
+    """The status and the output of zonecheck or zonefaults for a text."""
     top = Path(__file__).resolve().parents[2]
-    places = [top / "bin" / "zonecheck", top / "crates" / "zonecheck" / "out" / "zonecheck"]
-    program = shutil.which("zonecheck") or next((str(place) for place in places if place.exists()), "zonecheck")
+    places = [top / "bin" / program, top / "crates" / program / "out" / program]
+    found = shutil.which(program) or next((str(place) for place in places if place.exists()), program)
     with tempfile.TemporaryFile() as said:
         try:
-            done = subprocess.run([program, *options, origin, "/dev/stdin"], input=text.encode("latin-1"),
+            done = subprocess.run([found, *options, origin, "/dev/stdin"], input=text.encode("latin-1"),
                                   stdout=said, stderr=subprocess.PIPE, check=False)
         except (OSError, ValueError) as error:
-            raise Refused(f"{program}: {getattr(error, 'strerror', None) or error}") from None
+            raise Refused(f"{found}: {getattr(error, 'strerror', None) or error}") from None
         refuse(said.seek(0, os.SEEK_END) > MOST_TEXT, f"the canonical text has more than {MOST_TEXT:,} octets")
         said.seek(0)
         report = said.read().decode("latin-1")
-    refuse(done.returncode not in (0, 1), f"zonecheck: {done.stderr.decode('latin-1').strip() or f'status {done.returncode}'}")
+    refuse(done.returncode not in (0, 1), f"{program}: {done.stderr.decode('latin-1').strip() or f'status {done.returncode}'}")
     return done.returncode, report
 
 
@@ -103,11 +101,10 @@ def imported(origin, text, path, folder, lints=False, reads=read):
 class Zone:
     """A zone file, and all that is found about it.
 
-    `lines` are its lines, as corrected so far. `places` are as in an importer, if one made the lines or lines were added
-    to the file's own; else None. `notes` has the importer's message for each line that it could not convert. `unknown`
-    has, for each corrected line, what is unknown about it. `doubtful` has the names that may own more than `records` has.
-    `partial` means that included lines are unknown. `sources` has the text of each file. `mended` counts the corrections
-    by line and code, `size` their octets. `more` means that there may be unreported faults.
+    `lines` are its lines. `places` are as in an importer, if one made the lines; else None. `notes` has the importer's message for
+    each line that it could not convert. `doubtful` has for each name the types of its faulty entries. `partial` means that
+    included lines are unknown. `sources` has the text of each file. `more` means that there may be unreported faults. `fixes` has
+    the remedies that are sure: a file, a line, the columns of what is replaced, and a text.
     """
 
     def __init__(self, origin, text, path, importer=None, lints=False):
@@ -116,45 +113,87 @@ class Zone:
         self.places, self.notes, self.sources = None, None, {path: text}
         if importer:
             self.places, self.notes, self.sources = importer.places, importer.notes, importer.sources
-        self.faults, self.records, self.passes, self.more, self.partial = [], [], False, False, False
-        self.unknown, self.doubtful, self.mended, self.size = collections.defaultdict(set), set(), collections.Counter(), 0
-        self.lints, self.notes_found, self.fixes, self.named = lints, [], {}, importer.named if importer else set()
+        self.faults, self.records, self.passes, self.more, self.doubtful = [], [], False, False, collections.defaultdict(set)
+        self.lints, self.notes_found, self.fixes, self.named = lints, [], set(), importer.named if importer else set()
         self.passed, self.partial = importer.passed if importer else {}, bool(importer and importer.lost)
+        self.seen, self.mended, self.split = set(), set(), {}
 
     def passes_at_once(self):
-        """Whether zonecheck passes the text. If so, sets `passes` and `records`; else returns False. Its report is in `said`."""
-        status, self.said = zonecheck(self.origin, self.text, "--print")
+        """Whether zonecheck passes the text. If so, sets `passes` and `records`; else returns False."""
+        status, said = ask("zonecheck", self.origin, self.text, "--print")
         if status == 0:
             # The canonical text has a record on each line.
-            rows = (line.split(" ", 4) for line in self.said.splitlines())
+            rows = (line.split(" ", 4) for line in said.splitlines())
             self.records = [Record(owner, ttl, rtype, FIELD.findall(data)) for owner, ttl, _, rtype, data in rows]
             self.passes = True
         return self.passes
 
     def check(self):
-        """Runs zonecheck, and sets `passes`, `faults` and `records`."""
+        """Sets `passes`, `faults` and `records`."""
         if self.passes or self.passes_at_once():
             return self
-        said = self.said
-        if "\r" in self.text.rstrip("\r\n") and "\n" not in self.text.rstrip("\n"):
-            do = "write LF for each, as `tr '\\r' '\\n'` does"
-            self.found(0, said.split()[-1], f"the lines of the file end with CR alone: {do}")
-            self.text = self.sources[self.path] = self.text.replace("\r", "\n")
-            self.places, self.lines = None, split(self.text, self.path)
-            said = zonecheck(self.origin, "\n".join(self.lines))[1]
-        reader = Reader(self.zone)
-        while fault := re.fullmatch(r"line (\d+): (R\d\d)\n", said):
-            self.more = len(self.faults) >= MOST or self.mended.total() >= 5 * MOST or self.size > MOST_MENDED
-            if self.more or not self.mend(reader, int(fault[1]) - 1, fault[2]):
-                break
-            said = self.recheck(reader)
+        runs, rows = 0, None
+        while rows is None and not self.more:
+            said, runs = ask("zonefaults", self.origin, "\n".join(self.lines))[1], runs + 1
+            rows = self.look([Spot(*(int(part) - (at in (0, 2)) for at, part in enumerate(spot[:4])), spot[4], int(spot[5] or 0))
+                              for spot in SPOT.findall(said)], "\nmore\n" in said, said)
+            self.more = self.more or len(self.faults) >= MOST or runs == MOST_RUNS
+        if self.more:
+            self.records = []
         else:
-            self.records = self.model()
-            ZoneFaults(self, self.records).report(said)
-        self.records = self.records or self.model() if self.notes_found else self.records
-        self.faults.sort(key=lambda fault: (fault.place[1], fault.code))
+            ZoneFaults(self, self.records).report(rows)
+        self.faults.sort(key=lambda fault: (fault.place[1], fault.span or (0,), fault.code))
         self.more, self.faults = self.more or len(self.faults) >= MOST, self.faults[:MOST]
         return self
+
+    def look(self, spots, has_more, said):
+        """Reports the faults of entries that `spots` name, and reads the records of the other entries. Returns the rows for the faults
+        of the zone, or None if `lines` were changed because of a fault that hides others."""
+        reader, self.records, before = Reader(self.zone), [], len(self.mended)
+        for spot in spots:
+            self.records += reader.records(self.lines, spot.line + 1)
+            if len(self.faults) >= MOST or self.text.startswith((*FORMS,)) and self.faults:
+                self.more = len(self.faults) >= MOST
+                return []
+            if self.take(reader, spot):
+                return None
+        self.records += reader.records(self.lines) if not spots or spots[-1].code < "R14" or self.notes is not None else ()
+        if len(self.mended) > before or has_more and self.cut_out(spots):
+            return None
+        self.more = has_more
+        return re.findall(r"^(.*) (Z\d\d)$", said, re.M)
+
+    def take(self, reader, spot):
+        """Reports the fault of the entry that `reader` has just read, unless it was reported before. Returns whether the later spots
+        result from this fault."""
+        begun, owner, rtype = reader.begun, reader.owner, ""
+        if self.records and self.records[-1].line == begun:
+            owner, _, rtype, *_ = self.records.pop()
+        self.doubtful[None if spot.code in ("R05", "R06") else owner].add(rtype)
+        place, span = self.exact(spot)
+        key = place, span and span[0], spot.code
+        if key not in self.seen and begun not in self.mended and not (spot.code == "R08" and reader.lost):
+            self.seen.add(key)
+            remedy = Remedy(self, reader, spot)
+            self.partial = self.partial or remedy.tokens[:1] and remedy.tokens[0].upper() in ("$INCLUDE", "$GENERATE")
+            self.found(place, spot.code, remedy.says, span=span, entry=begun)
+            if span and remedy.new is not None:
+                self.fixes.add((*place, *remedy.cut, remedy.new))
+            if remedy.mending:
+                line, begin, end, new = remedy.mending
+                self.mended.add(begun)
+                self.lines[line] = self.lines[line][:begin] + new + self.lines[line][end:]
+                reader.lost = reader.lost or spot.code == "R07"
+                return spot.code not in ("R06", "R07")
+        reader.at = spot.line + 1 if spot.code < "R05" else reader.at
+        return False
+
+    def cut_out(self, spots):
+        """Takes out the lines of each $GENERATE that makes several faults. Returns whether there is one."""
+        count = collections.Counter(self.places[spot.line] for spot in spots) if self.places else {}
+        several = {place for place, number in count.items() if number > 1}
+        self.lines = ["" if several and place in several else line for line, place in zip(self.lines, self.places or self.lines)]
+        return bool(several)
 
     def remarks(self):
         """The notes: limits that only zonecheck has, and records that were not checked."""
@@ -165,21 +204,6 @@ class Zone:
                 self.notes_found.append(Fault((self.path, 1), "N01", "", says + ": zoneserve does not serve them"))
         return self.notes_found
 
-    def recheck(self, reader):
-        """What zonecheck reports about the lines that `reader` has not read, or about all lines if those have no fault.
-
-        First only some lines are tried, which may end in parentheses (R04). So many faults in a large file take less time.
-        """
-        # These lines have what a later entry can inherit.
-        before = [f"$ORIGIN {reader.origin}", *[f"$TTL {reader.default}"] * bool(reader.default),
-                  *[f"{reader.owner} {reader.stated or ''} A 192.0.2.1"] * bool(reader.owner)]
-        for most, codes in ((4096, "R(?:0[^4]|1[0-3])"), (LINES, "R(?:0.|1[0-3])")):
-            said = zonecheck(self.origin, "\n".join([*before, *self.lines[reader.at:reader.at + most]]))[1]
-            fault = re.fullmatch(rf"line (\d+): ({codes})\n", said)
-            if fault and int(fault[1]) > len(before):
-                return f"line {int(fault[1]) - len(before) + reader.at}: {fault[2]}\n"
-        return zonecheck(self.origin, "\n".join(self.lines))[1]
-
     def place(self, line):
         """The file and the number of a line."""
         if not self.places:
@@ -187,81 +211,40 @@ class Zone:
         file, number = divmod(self.places[line], 1 << 32)
         return [*self.sources][file], number
 
+    def exact(self, spot):
+        """The place of a spot, and its span if the line is in the file as it was checked."""
+        file, number = self.place(min(spot.line, len(self.lines) - 1))
+        lines = self.split.setdefault(file, self.sources[file].split("\n") if self.places and file not in self.split else ())
+        if self.places and lines[number - 1:number] != self.lines[spot.line:spot.line + 1]:
+            return (file, number), None
+        return (file, number), (spot.column, number + spot.end_line - spot.line, spot.end_column)
+
     def where(self, lines):
         """The places of these lines, at most three, in the words of a message."""
         places = dict.fromkeys(self.place(line) for line in itertools.islice(lines, 3))
         where = [f"line {line}" + f" of {file}" * (file != self.path) for file, line in places]
         return " and ".join(where) or "the same line"
 
-    def lacks(self, record, what):
-        """Whether the record's `what` ("data" or "ttl") is only a sample, since the right one is unknown."""
-        return what in self.unknown.get(record.line, ())
-
     def model(self):
-        """The records of the lines, as corrected so far."""
-        return list(Reader(self.zone).records(self.lines))
+        """The records with their lines."""
+        return list(Reader(self.zone).records(self.lines)) if self.passes else self.records
 
     def report(self, found, severity):
         """These faults, warnings and notes with their lines, as far as they have a severity."""
         wanted = {fault.place for fault in found}
         lines = {(file, number): line[1] for file in {file for file, _ in wanted}
                  for number, line in enumerate(re.finditer(r"([^\n]*)\n?", self.sources[file]), 1) if (file, number) in wanted}
-        return [Report(file, line, severity(code), code, owner, escaped(message[:2000]),
-                       escaped(lines.get((file, line), "").rstrip("\r").expandtabs()[:300]))
-                for (file, line), code, owner, message in found if severity(code)]
+        return [Report(file, line, *(span or (None, None, None)), severity(code), code, owner, escaped(message[:2000]),
+                       escaped(lines.get((file, line), "").rstrip("\r").replace("\t", " ")[:300]))
+                for (file, line), code, owner, message, span in found if severity(code)]
 
-    def found(self, line, code, text, owner=""):
-        """Adds a fault, unless it is equal to the last one. Returns whether it was added."""
-        text = self.notes.get(line, text) if self.notes and code in ("R05", "R11", "R13") else text
-        fault = Fault(self.place(line), code, owner, text)
+    def found(self, place, code, text, owner="", span=None, entry=None):
+        """Adds a fault."""
+        text = self.notes.get(entry, text) if self.notes and code in ("R05", "R11", "R13") else text
         if self.lints and code in LIMITS:
-            self.notes_found.append(fault._replace(code="N02", text=f"{LIMITS[code]}: zoneserve does not serve that"))
-            return True
-        another = self.faults[-1:] != [fault]
-        self.faults += [fault] * another
-        return another
-
-    def note_fix(self, line, mending):
-        """Records a remedy that is sure, unless the lines of the entry are not those of the file."""
-        file, number = self.place(line)
-        own = self.sources[file].split("\n")[number - 1:number - 1 + len(mending.fixed)]
-        if own == self.lines[line:mending.end]:
-            self.fixes.setdefault((file, number), mending.fixed)
-
-    def mend(self, reader, line, code):
-        """Reports and corrects the fault of an entry. Returns False if the rest of the file can't be checked."""
-        collections.deque(reader.records(self.lines, line), 0)
-        mending = Mending(self, reader, line, code)
-        if SURE.search(mending.says) and "not ASCII" not in mending.says and len(mending.fixed) == mending.end - line:
-            self.note_fix(line, mending)
-        self.size += sum(map(len, [*self.lines[line:mending.end], *mending.fixed]))
-        # If an entry has the same fault again after its correction, the fault is not reported again. A fault that only the
-        # correction of a string may have caused is not reported.
-        self.mended[line, code] += 1
-        again = self.mended[line, code] > (3 if code == "R01" else 1)
-        follows = mending.follows and "string" in self.unknown[line]
-        if not again and not follows and not self.found(line, code, mending.says):
-            # The last fault is the same, at another record of the same $GENERATE. All further records of it are taken out.
-            rest = range(line, len(self.lines))
-            for at in itertools.takewhile(lambda at: self.place(at) == self.place(line), rest):
-                self.lines[at] = ""
-            return True
-        self.unknown[line] |= {mending.unknown, "string"} if again else {mending.unknown}
-        if mending.unknown == "owner":
-            self.doubtful.add(name(mending.owner, reader.origin) if mending.owner else reader.owner)
-        end, lines = mending.end, [] if again else mending.fixed
-        if not lines and mending.owner and mending.owner[0] not in '$#/"':
-            # The entry is taken out. Later entries that begin with a blank shall still have its owner.
-            after = next((at for at in range(end, len(self.lines)) if self.lines[at].split(";")[0].strip()), line)
-            if self.lines[after][0] in " \t" and after > line:
-                self.lines[after] = mending.owner + self.lines[after]
-        lines += [""] * (end - line - len(lines))
-        if len(lines) > end - line:
-            # If an entry gets more lines than it had, they all get the place of its first line.
-            self.places = self.places or array("Q", range(1, len(self.lines) + 1))
-            self.places[line:end] = self.places[line:line + 1] * len(lines)
-        self.lines[line:end] = lines
-        return mending.unknown != "rest"
+            self.notes_found.append(Fault(place, "N02", owner, f"{LIMITS[code]}: zoneserve does not serve that", span))
+        elif self.faults[-1:] != [Fault(place, code, owner, text, span)]:
+            self.faults.append(Fault(place, code, owner, text, span))
 
 
 class ZoneFaults(Names):
@@ -270,19 +253,15 @@ class ZoneFaults(Names):
     A row is a record, a code, whether the record is a cause if its name has the fault of that code, and a sentence.
     """
 
-    def report(self, said):
+    def report(self, faults):
         self.soas = [record for record in self.of.records if record.rtype == "SOA"]
         self.hosts = {one.data[-1] for one in self.of.records if one.rtype in ("NS", "MX", "SRV") and one.data}
-        lost = {"data", "ttl", "owner"} & set().union(*self.of.unknown.values())
-        for owner, code in re.findall(r"^(.*) (Z\d\d)$", said, re.M):
+        for owner, code in faults:
             here = self.at(owner)
             rows = self.origin(owner, here) if code in ("Z01", "Z04") else self.rows(owner, here)
             found = [(record, says) for record, its, holds, says in rows if its == code and holds]
-            doubtful = owner in self.of.doubtful or self.of.partial if code in ("Z01", "Z04") else \
-                self.of.partial if code == "Z10" else \
-                lost and not found and code in ("Z08", "Z09", "Z10", "Z11")
-            for record, says in [] if doubtful else found or [(next(iter(here), None), "the name has this fault")]:
-                self.of.found(record.line if record else 0, code, says, owner)
+            for record, says in found or [(next(iter(here), None), "the name has this fault")]:
+                self.of.found(self.of.place(record.line if record else 0), code, says, owner)
             if len(self.of.faults) > MOST:
                 return
 
@@ -313,7 +292,6 @@ class ZoneFaults(Names):
             "write @ as its owner, or " * within(owner, self.zone) + give
         for number, (rtype, own) in enumerate(self.sets[owner].items()):
             first, alone = {record.ttl: record for record in reversed(own)}, unique(own)
-            known = len(first) > 1 and not any(self.of.lacks(record, "ttl") for record in own)
             more = [record for record in own[MOST:] if record in (first[record.ttl], *alone[64:65])]
             for record in own[:MOST] + more:
                 def but(records):
@@ -325,7 +303,7 @@ class ZoneFaults(Names):
                 yield record, "Z06", rtype != "CNAME" and owner != self.zone, \
                     f"other records at the name of a CNAME: keep it or the CNAME, on {but(aliases)}"
                 yield record, "Z07", rtype == "CNAME", f"more than one CNAME at one name; see {but(own)}: keep one"
-                yield record, "Z08", known and record is first[record.ttl], \
+                yield record, "Z08", len(first) > 1 and record is first[record.ttl], \
                     f"the TTL of this {rtype} record is {record.ttl}, unlike on {but(first.values())}: " \
                     f"give all {rtype} records of the name the TTL {own[0].ttl}"
                 yield record, "Z12", rtype not in ("A", "AAAA") and (rtype != "NS" or owner != cut), \
@@ -362,7 +340,6 @@ class ZoneFaults(Names):
         elif "." in written and written[-1] != "." and (owner == self.zone or not within(target, owner)):
             do = f"write {written}. if it is in another zone; else {do}"
         below = self.cut(target) and not (owner in self.cuts and within(target, owner))
-        known = not self.of.lacks(record, "data") and target not in self.of.doubtful
         lost = within(target, self.zone) and not below and not self.at(target, "A", "AAAA")
-        yield record, "Z10", rtype == "NS" and known and lost, \
+        yield record, "Z10", rtype == "NS" and lost, \
             f"a server in the zone without an address: {target}: {do}"

@@ -206,6 +206,11 @@ class Entry:
             refuse(len(self.pieces) > LARGE_ENTRY, f"an entry has more than {LARGE_ENTRY:,} tokens, blanks and comments")
         return depth
 
+    @property
+    def last(self):
+        """The line of the last token."""
+        return self.begin + self.pieces[:self.places[-1] if self.tokens else 0].count("\n")
+
     def joined(self, first):
         """The tokens from `first` on as a text, with one blank for all other pieces between two tokens."""
         pieces = self.pieces[[*self.places, len(self.pieces)][first]:]
@@ -229,12 +234,13 @@ class Entry:
 class Reader:
     """Reads the entries of a zone in order, and keeps what a later entry can inherit: `origin`, `owner` and TTLs.
 
-    `at` is the next line, `default` the TTL of the last $TTL, and `stated` the last TTL that a record stated. `pieces` is how
-    many pieces were read.
+    `at` is the next line, `begun` the line of the last entry, `default` the TTL of the last $TTL, and `stated` the last TTL that a
+    record stated. `pieces` is how many pieces were read. `lost`: whether an owner is not a name.
     """
 
     def __init__(self, zone):
         self.origin, self.at, self.owner, self.default, self.stated, self.pieces = zone, 0, None, None, None, 0
+        self.begun, self.lost = 0, False
 
     def entry(self, lines, at, nested=False):
         """The entry that begins at a line. Raises `Refused` if all entries together are too large."""
@@ -244,11 +250,12 @@ class Reader:
         return entry
 
     def records(self, lines, stop=sys.maxsize):
-        """Yields the records of all entries that begin before line `stop`."""
+        """Yields the records of all entries that begin before line `stop`, if it is given up to one that is not closed."""
         while self.at < min(stop, len(lines)):
             if lines[self.at][:1] in ("", ";"):
                 self.at += 1
                 continue
+            self.begun = self.at
             if quick := QUICK.fullmatch(lines[self.at]):
                 yield self.quickly(*quick.groups())
                 continue
@@ -256,6 +263,8 @@ class Reader:
             self.at, record = entry.end, self.take(entry)
             if record:
                 yield record
+            if not entry.closed and stop < sys.maxsize:
+                return
 
     def quickly(self, owner, ttl, rtype, data):
         """The record of a line that is a whole entry of plain tokens."""

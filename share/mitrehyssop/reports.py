@@ -26,14 +26,18 @@ def text_of(file):
     return re.sub("[\udc80-\udcff]", lambda c: f"\\{ord(c[0]) - 0xdc00:03}", file)
 
 
-class Report(collections.namedtuple("Report", "file line severity code name message text")):
-    """A fault, a warning or a note as it is reported. As a string it has the form FILE:LINE: .., which editors recognize."""
+class Report(collections.namedtuple("Report", "file line column end_line end_column severity code name message text")):
+    """A fault, a warning or a note as it is reported. As a string it has the form FILE:LINE:COLUMN: .., which editors recognize, or
+    FILE:LINE: .. if it has no column; then come the line, and marks below what is at fault."""
 
     def said(self):
         return f"{self.name}: {self.message}" if self.name else self.message
 
     def __str__(self):
-        return f"{plain(self.file)}:{self.line}: {self.code}: {self.said()}\n    {self.text}\n"
+        column, marks = f"{self.column}:" if self.column else "", ""
+        if self.column and self.column < 300 and "\\" not in self.text[:self.column]:
+            marks = f"    {' ' * (self.column - 1)}{'^' * max(self.end_column - self.column, 1)}\n"
+        return f"{plain(self.file)}:{self.line}:{column} {self.code}: {self.said()}\n    {self.text}\n{marks}"
 
     def coloured(self):
         front, code, rest = str(self).partition(f" {self.code}: ")
@@ -57,7 +61,7 @@ def fingerprints(found):
     """For each report a number that stays the same if lines are added before it: it has no lines, but counts equal reports."""
     count, made = collections.Counter(), []
     for one in found:
-        key = one._replace(line=0, message=re.sub(r"lines? \d+", "line", one.message), severity="")
+        key = one.file, one.code, one.name, re.sub(r"lines? \d+", "line", one.message), one.text
         count[key] += 1
         made.append(hashlib.sha256(repr((key, count[key])).encode()).hexdigest())
     return made
@@ -76,6 +80,20 @@ def named(form, one):
     return NAMES[form].get(one.severity, one.severity)
 
 
+def span(one, *keys):
+    """The place of a report under these keys: the lines and columns where it begins and ends, or only its line."""
+    values = (one.line, one.column, one.end_line, one.end_column)
+    return dict(zip(keys, values if one.column else values[:1]))
+
+
+def positions(one):
+    """The place of a report for GitLab."""
+    place = span(one, *"abcd")
+    return {"lines": {"begin": one.line}} if len(place) == 1 else {
+        "lines": {"begin": one.line, "end": one.end_line},
+        "positions": {"begin": {"line": one.line, "column": one.column}, "end": {"line": one.end_line, "column": one.end_column}}}
+
+
 def sarif(found, version):
     codes, rules = sorted({one.code for one in found}), []
     for code in codes:
@@ -85,7 +103,8 @@ def sarif(found, version):
         "ruleId": one.code, "ruleIndex": codes.index(one.code), "level": one.severity, "message": {"text": one.said()},
         "partialFingerprints": {"zonelint/v1": print_of},
         "locations": [{"physicalLocation": {"artifactLocation": {"uri": urllib.parse.quote(os.fsencode(one.file))},
-                                            "region": {"startLine": one.line}}}]} for one, print_of in zip(found, fingerprints(found))]
+                                            "region": span(one, "startLine", "startColumn", "endLine", "endColumn")}}]}
+        for one, print_of in zip(found, fingerprints(found))]
     driver = {"name": "zonelint", "version": version, "rules": rules}
     return dump({"version": "2.1.0", "$schema": "https://json.schemastore.org/sarif-2.1.0.json",
                  "runs": [{"tool": {"driver": driver}, "results": results}]})
@@ -96,16 +115,18 @@ FORMATS = {
     "text": lambda found, _: "".join(map(str, found)),
     "json": lambda found, _: dump([{**one._asdict(), "file": text_of(one.file)} for one in found]),
     "github": lambda found, _: "".join(
-        f"::{named('github', one)} file={plain(one.file.translate(GITHUB))},line={one.line},title={one.code}::"
+        f"::{named('github', one)} file={plain(one.file.translate(GITHUB))},"
+        + "".join(f"{key}={value}," for key, value in span(one, "line", "col", "endLine", "endColumn").items()) + f"title={one.code}::"
         + one.said().replace("%", "%25") + "\n" for one in found),
     "gitlab": lambda found, _: dump([
         {"description": f"{one.code}: {one.said()}", "check_name": one.code, "fingerprint": print_of,
-         "severity": named("gitlab", one), "location": {"path": text_of(one.file), "lines": {"begin": one.line}}}
+         "severity": named("gitlab", one), "location": {"path": text_of(one.file), **positions(one)}}
         for one, print_of in zip(found, fingerprints(found))]),
     "sarif": sarif,
     "checkstyle": lambda found, _: '<?xml version="1.0" encoding="UTF-8"?>\n<checkstyle version="4.3">\n' + "".join(
         f'<file name="{html.escape(plain(file))}">\n' + "".join(
-            f'<error line="{one.line}" severity="{named("checkstyle", one)}" source="zonelint.{one.code}" '
+            "<error " + "".join(f'{key}="{value}" ' for key, value in span(one, "line", "column").items())
+            + f'severity="{named("checkstyle", one)}" source="zonelint.{one.code}" '
             f'message="{html.escape(f"{one.code}: {one.said()}")}"/>\n' for one in reports) + "</file>\n"
         for file, reports in itertools.groupby(found, lambda one: one.file)) + "</checkstyle>\n",
 }

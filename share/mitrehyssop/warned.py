@@ -135,7 +135,6 @@ class Warnings(Names):
 
     def look(self):
         looks = {"SOA": self.soa, "TXT": self.text, **dict.fromkeys(("NS", "CNAME", "PTR", "MX", "SRV"), self.target)}
-        lacks = self.of.lacks if self.of.unknown else lambda *_: False
         for full, sets in self.sets.items():
             if not within(full, self.zone):
                 continue
@@ -147,13 +146,13 @@ class Warnings(Names):
                         if rtype in RAW and len(record.data) > 2 and (says := RAW[rtype][0](bytes.fromhex(record.data[2]))):
                             yield record, RAW[rtype][1], True, says
                         continue
-                    if record.ttl == "0" and not self.catalog and not lacks(record, "data"):
+                    if record.ttl == "0" and not self.catalog:
                         yield record, "W06", True, "the TTL is 0: each question reaches the server"
-                    if look and not lacks(record, "data"):
+                    if look:
                         for row in look(record):
                             if row[1]:
                                 yield record, *row
-        servers = self.at(self.zone, "NS")
+        servers = self.at(self.zone, "NS") if "NS" not in self.of.doubtful.get(self.zone, ()) else []
         hosts = [{host.data[0] for host in self.at(server.data[0], "A", "AAAA")} for server in servers]
         for server in servers[:1]:
             same = len(hosts) > 1 and 0 < len(hosts[0]) <= 2 and all(host == hosts[0] for host in hosts)
@@ -191,7 +190,7 @@ class Warnings(Names):
                     f"an address at or below the delegation of {cut}, at a name that no NS record names: it is never served"
 
     def host(self, record):
-        found = not self.of.lacks(record, "data") and address(record.data[0])
+        found = address(record.data[0])
         net = found and next((net for net in UNUSABLE if ipaddress.ip_address(found[1]) in net), None)
         yield record, "W48", net and not record.data[0].startswith("127.0.0.") * self.codes, \
             f"nobody can reach {record.data[0]} from elsewhere: it is in {net}"
