@@ -52,8 +52,7 @@ RULES = [
     ("R14", "", "more than 100,000 records: split the zone", None),
     ("R15", "", "more than 16,777,216 octets: split the zone", None)]
 # What is wrong with an owner, by the number of R07.
-OWNERS = {1: "an empty label: no two dots follow one another", 2: "a label of more than 63 octets", 3: "more than 255 octets",
-          4: "below its origin more than 255 octets"}
+OWNERS = {1: "an empty label: no two dots follow one another", 2: "a label of more than 63 octets", 3: "more than 255 octets"}
 # Corrections of data that lacks a field or has two fields in the wrong order: a pattern, and the message.
 FIELDS = [(r"MX (\d+)([A-Za-z]\S*)", "a blank is missing: write MX {0} {1}"),
           (r"MX (?!\d+ )(\S+) (\d+)", "the number is first: write MX {1} {0}"),
