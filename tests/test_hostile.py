@@ -337,6 +337,13 @@ FAULTY = [
     b"a A \\# 1 00\n", b"a MX \\# 3 00 0\n", b"a CNAME b\na A 192.0.2.1\n", b" ; x\n 5 A 192.0.2.9\n"]
 
 
+def test_the_stored_run():
+    """The gate runs zonefaults with what the plain program says of a faulty file."""
+    crate = TOP / "crates" / "zonefaults"
+    wanted = plain.report((crate / "data" / "faulty.zone").read_bytes(), ORIGIN)
+    assert wanted == (crate / "stdout").read_text() and (crate / "status").read_text() == "1\n"
+
+
 def faulty_texts():
     """The texts of tests/data with faults, as they are and after one another."""
     cases = json.loads((TOP / "tests" / "data" / "faults.json").read_text())

@@ -296,6 +296,41 @@ def test_formats_and_names_of_files(lint, name, spelled):
         assert re.fullmatch(r"[\n -~]+", lint("--served", "--format", form, "example", name)[2])
 
 
+PLACED = SERVED + 'ns A 192.0.2.300\nb..c A 192.0.2.1\nt TXT ( "a"\n  "b\n'
+
+
+def test_places_in_each_format(lint):
+    """The lines and columns of zonefaults are those of each format. A column after the last one is exclusive."""
+    def read(form):
+        return lint("--served", "--select", "R", "--format", form, "example", "z")[2]
+
+    places = [(6, 6, 6, 17), (7, 1, 7, 5), (9, 5, 9, 5)]
+    wanted = [(f"{line}:{column}-{end}:{last}", code) for (line, column, end, last), code in zip(places, ["R13.3", "R07.1", "R03"])]
+    Path("z").write_text(PLACED)
+    assert re.findall(r"^(\d+:\d+-\d+:\d+) (R.*)$", run("zonefaults", "example", "z").stdout, re.M) == wanted
+    ends = ("column", "end_line", "end_column")
+    assert [(one["line"], *(one[end] for end in ends)) for one in json.loads(read("json"))] == places
+    regions = [one["locations"][0]["physicalLocation"]["region"] for one in json.loads(read("sarif"))["runs"][0]["results"]]
+    assert [tuple(region[key] for key in ("startLine", "startColumn", "endLine", "endColumn")) for region in regions] == places
+    gitlab = [one["location"]["positions"] for one in json.loads(read("gitlab"))]
+    assert [(*one["begin"].values(), *one["end"].values()) for one in gitlab] == places
+    github = re.findall(r"line=(\d+),col=(\d+),endLine=(\d+),endColumn=(\d+),", read("github"))
+    assert [tuple(map(int, one)) for one in github] == places
+    assert re.findall(r'line="(\d+)" column="(\d+)"', read("checkstyle")) == [(str(one[0]), str(one[1])) for one in places]
+    text = read("text")
+    assert re.findall(r"^z:(\d+):(\d+): ", text, re.M) == [(str(one[0]), str(one[1])) for one in places]
+    assert "\n    ns A 192.0.2.300\n         ^^^^^^^^^^^\n" in text and '\n      "b\n        ^\n' in text
+
+
+@pytest.mark.parametrize("lines, place", [
+    ("\tA\t192.0.2.300", (6, 4)), ("w 1h A 192.0.2.300", (6, None)), ("t TXT ( ( a )\n  b..c\n) \\", (8, 3)),
+    ("$GENERATE 1-2 a$ A 192.0.2.300", (6, None)), ("@ CAA 0 issue", (6, 3)), ("w MX ( 1h\n b..c )", (6, 8))])
+def test_places_in_the_form_of_bind(lint, lines, place):
+    """A line that is checked as it stands has a column. Else the line is known."""
+    (one,) = json.loads(lint("--select", "R", "--format", "json", "example", "z", text=GOOD + lines + "\n")[2])
+    assert (one["line"], one["column"]) == place
+
+
 def test_a_zone_without_faults_in_each_format(lint):
     for form in ("json", "gitlab", "sarif", "checkstyle", "github"):
         status, _, said = lint("--served", "--format", form, "example", "z", text=SERVED)

@@ -19,6 +19,9 @@ def needs_rt(test):
 # For each program, its calls in examples/, in which FOLDER is a folder with faulty zones: the words, the status, and
 # what is written to each stream. zonesocket gets no socket.
 CALLS = json.loads((DATA / "calls.json").read_text())
+# Lines with six faults of entries.
+ROW = ('$TTL 60\n@ SOA ns h 1 2 3 4 5\n@ NS ns\nns A 192.0.2.300\nwww 1h A 192.0.2.1\nmx MXX 10 ns\nt TXT ( "a"\n  "b\n)\n'
+       'b..c A 192.0.2.1\n')
 LOADED = "zone example/IN: loaded serial 1\nOK\n"
 
 
@@ -27,12 +30,39 @@ LOADED = "zone example/IN: loaded serial 1\nOK\n"
 def test_a_call(programs, tmp_path, program, words, status, output, errors):
     (tmp_path / "mapped.zone").write_text("$TTL 5\n@ AAAA ::192.0.2.1\n")
     (tmp_path / "open.zone").write_text('@ NS "')
+    (tmp_path / "row.zone").write_text(ROW)
     words = words.replace("FOLDER", str(tmp_path)).split(" ") if words else []
     done = run(programs / program, *words, cwd=EXAMPLES, stdin=subprocess.DEVNULL)
     assert (done.returncode, done.stdout, done.stderr) == (status, output, errors)
 
 
-@pytest.mark.parametrize("program, words, output", [("zonecheck", [], LOADED), ("zoneserve", ["once"], "")])
+SOUND = b"$TTL 60\n@ SOA ns h 1 2 3 4 5\n@ NS ns\nns A 192.0.2.1\n"
+MANY = b"w A 192.0.2.300\n" * 2_000
+FULL = SOUND + b"".join(b"w%d A 192.0.2.2\n" % number for number in range(99_997))
+
+
+@pytest.mark.parametrize("text, wanted", [
+    (b"", "example. Z01\nexample. Z04\n"),
+    (SOUND + b"w CNAME ns\nw A 192.0.2.1\n" + MANY,
+     "".join(f"{line}:5-{line}:16 R13.3\n" for line in range(7, 1_007)) + "more\nw.example. Z06\n"),
+    (SOUND + MANY[:16_000], "".join(f"{line}:5-{line}:16 R13.3\n" for line in range(5, 1_005))),
+    (FULL, ""),
+    (FULL + b"x A 192.0.2.3\ny A 192.0.2.300\n", "100002:1-100002:1 R14\n"),
+    (SOUND + b"w A x\n" + b"\n" * (2**24 - 58), "5:5-5:6 R13.3\n"),
+    (SOUND + b"w A x\n" + b"\n" * (2**24 - 58) + b"y A x\n", "5:5-5:6 R13.3\n16777164:1-16777164:2 R15\n"),
+    (SOUND + b"w A x\n" + b";" * 2**24, "5:5-5:6 R13.3\n6:16777159-6:16777160 R15\n")],
+    ids=["empty", "2,000 faults", "1,000 faults", "100,000 records", "more records", "16 MiB", "more octets", "a long comment"])
+def test_the_limits_of_zonefaults(programs, tmp_path, text, wanted):
+    """Also from a pipe, in which it can't look at the size of the file."""
+    file = tmp_path / "zone"
+    file.write_bytes(text)
+    for words in ([file], ["/dev/stdin"]):
+        done = subprocess.run([programs / "zonefaults", "example", *words], capture_output=True,
+                              **({"input": text} if words != [file] else {}))
+        assert (done.returncode, done.stdout.decode(), done.stderr) == (int(wanted != ""), wanted, b"")
+
+
+@pytest.mark.parametrize("program, words, output", [("zonecheck", [], LOADED), ("zonefaults", [], ""), ("zoneserve", ["once"], "")])
 def test_the_name_of_a_program_need_not_be_utf_8(programs, tmp_path, program, words, output):
     named = os.fsencode(tmp_path / program) + b"\xff"
     shutil.copy(programs / program, named)
@@ -41,9 +71,15 @@ def test_the_name_of_a_program_need_not_be_utf_8(programs, tmp_path, program, wo
 
 
 @pytest.mark.parametrize("device", [">/dev/full", ">&-", "| head -c 100 >/dev/null; exit ${PIPESTATUS[0]}"])
-@pytest.mark.parametrize("option", ["", "--print"])
+@pytest.mark.parametrize("option", ["", "--print", "faults"])
 def test_an_output_that_fails(programs, tmp_path, option, device):
     zone = EXAMPLES / "example.zone"
+    if option == "faults":
+        zone = tmp_path / "many.zone"
+        zone.write_bytes(SOUND + b"".join(b"w%d CNAME ns\nw%d A 192.0.2.2\n" % (number, number) for number in range(10_000)))
+        done = run("bash", "-c", f"zonefaults example {zone} {device}")
+        assert (done.returncode, done.stderr) == (2, "P1\n")
+        return
     if "|" in device:
         option, zone = "--print", tmp_path / "mixed.zone"
         zone.write_bytes(mixed_zone())
