@@ -4,7 +4,6 @@ import os
 import re
 from array import array
 
-from generic import generic
 from master import (KINDS, LARGEST, LINES, NAMES, NUMBERS, OTHERS, QUICK, Entry, Reader, Refused, digits, groups, name, octets,
                     read, refuse, split, unquoted)
 
@@ -131,6 +130,7 @@ class Importer(Reader):
             if any(len(token) % 2 for token in data[2:]):
                 tokens[at + 3:] = ["".join(data[2:]), *[""] * (len(data) - 3)]
         elif rtype in OTHERS:
+            from generic import generic  # It imports dnspython, which takes long.
             text, why = generic(entry, rtype, self.origin)
             if why:
                 self.notes[len(self.lines)] = why

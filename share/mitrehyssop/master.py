@@ -12,12 +12,6 @@ import socket
 import stat
 import sys
 
-try:
-    import dns.name
-except ImportError:
-    sys.stderr.write("python3-dnspython is needed, and is not installed\n")
-    sys.exit(2)
-
 PIECE = re.compile(r'[ \t\r]+|;.*|"(?:[^"\\]+|\\.)*(?:"|\\?)|[()]|(?:[^ \t\r;"()\\]+|\\.)+|\\', re.S)
 SIMPLE = re.compile(r"(?:[!#%&'*+,\-/0-9:<=>?A-Z\[\]^_`a-z{|}~]{1,63}(?:\.|$))+")
 CLASS = re.compile(r"(?:IN|CH|CS|HS)$|CLASS", re.I)
@@ -102,19 +96,33 @@ def string(text):
     return '"' + escaped(re.sub(r'(["\\])', r"\\\1", text)) + '"'
 
 
+@functools.cache
+def dns_name():
+    """dns.name of dnspython, which takes long to import, and which few zones need."""
+    try:
+        import dns.name
+    except ImportError:
+        raise ModuleNotFoundError("python3-dnspython is needed, and is not installed") from None
+    return dns.name
+
+
 @functools.lru_cache
 def size(full):
     """How many octets an absolute name has on the wire."""
-    return len(dns.name.from_text(full).to_wire())
+    return len(dns_name().from_text(full).to_wire()) if "\\" in full else len(full) + (full != ".")
 
 
 @functools.lru_cache(1 << 17)
 def name(text, origin):
     """The absolute name, in the form of the canonical text, of a name relative to an origin. None if it is invalid."""
+    if text == "@":
+        return origin
     if SIMPLE.fullmatch(text) and len(text) + size(origin) < 255:
         return text.lower() if text[-1] == "." else f"{text.lower()}.{origin.lstrip('.')}"
     try:
-        full = dns.name.from_text(text[:1021].encode("latin-1"), dns.name.from_text(origin))
+        full = dns_name().from_text(text[:1021].encode("latin-1"), dns_name().from_text(origin))
+    except ModuleNotFoundError:
+        raise
     except Exception:  # dnspython raises many kinds of exceptions.
         return None
     return full.canonicalize().to_text()

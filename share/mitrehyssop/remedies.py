@@ -4,7 +4,6 @@ import itertools
 import re
 import unicodedata
 
-from generic import generic
 from master import (BEGIN, KINDS, NAMED, NUMBERS, OTHERS, PIECE, Entry, Reader, address, digits, escaped, name, octets, unquoted)
 
 TAKES = {"A": "an IPv4 address: four numbers from 0 to 255", "NS": "the name of a server", "CNAME": "a name",
@@ -215,7 +214,7 @@ class Remedy(Entry):
         if found := self.rule() or (self.blank or not self.data) and self.misplaced(typed, "type"):
             return found
         if self.rtype in OTHERS:
-            (data, why), number = generic(self, self.rtype, self.reader.origin), NUMBERS[self.rtype]
+            (data, why), number = self.generic(), NUMBERS[self.rtype]
             do = why or f"write {number} {data[:60]}{'..' * bool(data[60:])}, as `zoneimport` does"
             return f"{typed.upper()} is not known by name: {do}"
         near = [bare] if bare in NUMBERS else difflib.get_close_matches(bare[:20], COMMON, 1) if bare[2:] else []
@@ -231,7 +230,7 @@ class Remedy(Entry):
             do = f": write \\# {len(hexes) // 2} {hexes}".rstrip()[:70] if is_hex else ""
             return says + (f"; these are not valid for {rtype}" if number == 7 else do)
         if number == 6:
-            data, _ = generic(self, rtype, self.reader.origin)
+            data, _ = self.generic()
             return f"{rtype} takes \\#, a length and hex digits" + (f": write {data}" if data else "")
         takes, text = f"{rtype} takes {TAKES[rtype]}", " ".join([rtype, *self.data])
         for pattern, says in FIELDS:
@@ -244,6 +243,10 @@ class Remedy(Entry):
         numbers = [token for kind, token in zip(KINDS[rtype], self.data) if kind in "HL"] if number == 2 else []
         others = [as_number(token, kinds[2])[0] for token in numbers if token != self.word]
         return "; ".join(dict.fromkeys([takes, says, *filter(None, others)])), new if number == 2 and "is written" in says else None
+
+    def generic(self):
+        from generic import generic  # It imports dnspython, which takes long.
+        return generic(self, self.rtype, self.reader.origin)
 
     def counted(self, rtype, kinds):
         """The messages for data with too few or too many fields."""

@@ -1,8 +1,6 @@
 """How faults, warnings and notes are written: as text, and in the formats of editors and CI systems."""
 import collections
 import functools
-import hashlib
-import html
 import itertools
 import json
 import os
@@ -59,6 +57,7 @@ def explained(code=None):
 
 def fingerprints(found):
     """For each report a number that stays the same if lines are added before it: it has no lines, but counts equal reports."""
+    import hashlib
     count, made = collections.Counter(), []
     for one in found:
         key = one.file, one.code, one.name, re.sub(r"lines? \d+", "line", one.message), one.text
@@ -73,6 +72,7 @@ def dump(value):
 
 # The escapes that GitHub needs in a file name. In a message only % has to be escaped, since no message has a CR or LF.
 GITHUB = {ord(c): f"%{ord(c):02X}" for c in "%\r\n:,"}
+XML = str.maketrans({"&": "&amp;", "<": "&lt;", ">": "&gt;", '"': "&quot;"})
 NAMES = {"github": {"note": "notice"}, "gitlab": {"error": "major", "warning": "minor", "note": "info"}, "checkstyle": {"note": "info"}}
 
 
@@ -124,9 +124,9 @@ FORMATS = {
         for one, print_of in zip(found, fingerprints(found))]),
     "sarif": sarif,
     "checkstyle": lambda found, _: '<?xml version="1.0" encoding="UTF-8"?>\n<checkstyle version="4.3">\n' + "".join(
-        f'<file name="{html.escape(plain(file))}">\n' + "".join(
+        f'<file name="{plain(file).translate(XML)}">\n' + "".join(
             "<error " + "".join(f'{key}="{value}" ' for key, value in span(one, "line", "column").items())
             + f'severity="{named("checkstyle", one)}" source="zonelint.{one.code}" '
-            f'message="{html.escape(f"{one.code}: {one.said()}")}"/>\n' for one in reports) + "</file>\n"
+            f'message="{f"{one.code}: {one.said()}".translate(XML)}"/>\n' for one in reports) + "</file>\n"
         for file, reports in itertools.groupby(found, lambda one: one.file)) + "</checkstyle>\n",
 }

@@ -4,7 +4,6 @@ import functools
 import json
 import os
 import re
-import tomllib
 
 from master import Refused
 from reports import fingerprints
@@ -30,6 +29,7 @@ def settings_in(folder):
     """The settings of zonelint.toml in a folder, or in the nearest one above it that has such a file; and the file."""
     path = os.path.join(folder, "zonelint.toml")
     if os.path.isfile(path):
+        import tomllib  # Few zones have such a file.
         try:
             with open(path, "rb") as file:
                 return tomllib.load(file), path

@@ -114,7 +114,10 @@ class Warnings(Names):
         # A catalog zone (RFC 9432) has a TTL of 0 on purpose.
         self.catalog = bool(self.at("version." + self.zone, "TXT"))
         for full in self.sets:
-            self.nodes.update(itertools.takewhile(lambda node: node not in self.nodes, above(full)))
+            for node in above(full):
+                if node in self.nodes:
+                    break
+                self.nodes.add(node)
             refuse(len(self.nodes) > MOST_NODES, f"more than {MOST_NODES:,} names own records or are above such names")
         # In a response policy zone owners are names and addresses of others on purpose.
         self.policy = any(record.data[0] in POLICY for sets in self.sets.values() for record in sets.get("CNAME", ())

@@ -2,9 +2,7 @@
 import os
 import re
 
-import dns.exception
-import dns.name
-from master import Refused, read
+from master import Refused, dns_name, read
 
 NAMED = re.compile(r"(?:(?:db|pri|master|named)\.)?(.+?)(?:\.(?:zone|db|hosts|txt|signed|inc|dns|unsigned))*")
 ZONE_FILE = re.compile(r"(?:db|pri|master)\..+|.+\.(?:zone|db|hosts|dns)(?:\.signed)?")
@@ -18,8 +16,8 @@ def origin_of(text):
     if text.isascii() or any("\udc80" <= c <= "\udcff" for c in text):
         return text
     try:
-        return dns.name.from_text(text).to_text()
-    except (dns.exception.DNSException, UnicodeError) as error:
+        return dns_name().from_text(text).to_text()
+    except Exception as error:  # dnspython raises many kinds of exceptions.
         raise Refused(f"{text} is no domain name: {error}") from None
 
 
