@@ -460,6 +460,12 @@ def test_no_false_ok(lint, line, code):
     assert (code, 6) in found, said
 
 
+@pytest.mark.parametrize("line, found", [
+    ("@ TYPE257 \\# 1 00\n_25._tcp TYPE52 \\# 2 03 01", []), ("@ TYPE257 \\# 7 00 056973 737565\nx A y", [("R13", 7)])])
+def test_octets_of_types_without_a_name(lint, line, found):
+    assert lint("--served", "--select", "R,W58", "example", "z", text=SERVED + line + "\n")[:2] == (bool(found), found)
+
+
 def test_octets_at_the_ends_of_a_file(lint):
     assert lint("example", "z", text=b"\xef\xbb\xbf" + GOOD.encode())[:2] == (1, [("R01", 1)])
     assert lint("example", "z", text=GOOD + "$TTL 2h")[:2] == (0, [("W07", 6)])

@@ -146,7 +146,8 @@ class Warnings(Names):
                 look = looks.get(rtype)
                 for record in records:
                     if record.data[:1] == ["\\#"]:
-                        if rtype in RAW and len(record.data) > 2 and (says := RAW[rtype][0](bytes.fromhex(record.data[2]))):
+                        data = bytes.fromhex("".join(record.data[2:])) if rtype in RAW else b""
+                        if len(data) > 2 and (says := RAW[rtype][0](data)):
                             yield record, RAW[rtype][1], True, says
                         continue
                     if record.ttl == "0" and not self.catalog:
