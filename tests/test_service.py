@@ -69,7 +69,7 @@ def test_faulty_files(run):
         before = workers.processes()
         write(workers.file, 2, "www A 192.0.2.256\n" * 300)
         assert workers.reload() == 1 and is_answered(HERE, QUESTION)
-        assert f"{workers.file} is at fault:\n{workers.file}:6: R13" in workers.log()
+        assert f"{workers.file} is at fault:\n{workers.file}:6:7: R13" in workers.log()
         assert len(workers.log().splitlines()) < 110
         workers.file.unlink()
         assert workers.reload() == 2
@@ -130,7 +130,7 @@ def test_signals_that_reload(run):
 
 def test_a_full_folder_and_a_faulty_start(run, programs, tmp_path):
     for text, sockets, status, said in [
-        ("www A 192.0.2.256\n", [bound(socket.SOCK_DGRAM, HERE)], 1, ":6: R13"),
+        ("www A 192.0.2.256\n", [bound(socket.SOCK_DGRAM, HERE)], 1, ":6:7: R13"),
         ("", [socket.socketpair()[0]], 2, "descriptor 3 is no socket of UDP or TCP"),
     ]:
         workers = run()

@@ -11,7 +11,6 @@ import shutil
 import subprocess
 import sys
 import tempfile
-from array import array
 from pathlib import Path
 
 import bind
