@@ -67,7 +67,7 @@ def test_files_that_are_not_plain(deploys):
     text = Path("new").read_text()
     Path("new").unlink()
     os.mkfifo("new")
-    for status, given, said in [(1, text.replace("192.0.2.4", "192.0.2.256"), "new:4:5: R13: "),
+    for status, given, said in [(1, text.replace("192.0.2.4", "192.0.2.256"), "new:4:6: R13: "),
                                 (0, text, "nothing changes")]:
         with subprocess.Popen(["tee", "new"], stdin=subprocess.PIPE, stdout=subprocess.DEVNULL) as writer:
             writer.stdin.write(given.encode())

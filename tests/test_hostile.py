@@ -1,5 +1,6 @@
 """Randomly changed datagrams, zone files and messages, by fixed seeds: what zoneserve, zonecheck, zonefaults and
-dnsmsg print is compared with what plain programs say. The reader of zone files is plain_faults.py; the server is here."""
+dnsmsg print is compared with what plain programs say. The reader of zone files is plain_faults.py; the server is
+here."""
 import itertools
 import json
 import os
@@ -329,8 +330,8 @@ def test_zone_files(programs, tmp_path, count):
 HEAD = b"$TTL 60\n@ SOA ns h 1 2 3 4 5\n@ NS ns\nns A 192.0.2.1\n"
 # An entry for each fault and each form of it. Of some the fault is in a word, of some between words, of some at an end.
 FAULTY = [
-    b"a A \x00\n", b"a TXT x\\\n", b'a TXT "x\n', b"a A ( 192.0.2.1 (\n", b")\n", b"a A (\n", b"$INCLUDE x\n", b"$TTL 1h\n",
-    b"$TTL\n", b"$TTL 5 6\n", b"$ORIGIN a..b\n", b'$ORIGIN "x"\n', b"a..b A 192.0.2.1\n", b'"a" A 192.0.2.1\n',
+    b"a A \x00\n", b"a TXT x\\\n", b'a TXT "x\n', b"a A ( 192.0.2.1 (\n", b")\n", b"a A (\n", b"$INCLUDE x\n",
+    b"$TTL 1h\n", b"$TTL\n", b"$TTL 5 6\n", b"$ORIGIN a..b\n", b'$ORIGIN "x"\n', b"a..b A 192.0.2.1\n", b'"a" A 192.0.2.1\n',
     b"w" * 64 + b" A 192.0.2.1\n", b"a 1h A 192.0.2.1\n", b"a IN 010 A 192.0.2.1\n", b"a CH A 192.0.2.1\n",
     b"a 5 CLASS2 A 192.0.2.1\n", b"a 5\n", b"a MXX 1\n", b"a TYPE41 \\# 0\n", b"a A 192.0.2.1 x\n", b"a MX x h\n",
     b"a A 192.0.2.300\n", b"a AAAA ::x\n", b"a NS b..c\n", b"a TXT " + b"x" * 256 + b"\n", b"a TYPE65280 x\n",
@@ -360,7 +361,8 @@ def pairs_of_faults(step):
 
 
 def changed_texts(count):
-    texts = [path.read_bytes() for folder in ("examples", "tests/data") for path in sorted((TOP / folder).glob("*.zone"))]
+    files = [*sorted((TOP / "examples").glob("*.zone")), *sorted((TOP / "tests" / "data").glob("*.zone"))]
+    texts = [path.read_bytes() for path in files]
     chance = random.Random(2)
     return (changed(chance, changed(chance, chance.choice(texts), WORDS), WORDS) for _ in range(count))
 

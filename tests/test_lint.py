@@ -265,7 +265,8 @@ def read_forms(name):
     def unquoted(uri):
         return os.fsdecode(urllib.parse.unquote_to_bytes(uri))
 
-    github = re.findall(r"^::(?:error|warning) file=(.*),line=(\d+),(?:col=.*,)?title=([RZW]\d\d)::[^\n]+$", read("github"), re.M)
+    github = re.findall(r"^::(?:error|warning) file=(.*),line=(\d+),(?:col=.*,)?title=([RZW]\d\d)::[^\n]+$",
+                        read("github"), re.M)
     gitlab, sarif = json.loads(read("gitlab")), json.loads(read("sarif"))["runs"][0]["results"]
     places = [result["locations"][0]["physicalLocation"] for result in sarif]
     files = xml.etree.ElementTree.fromstring(read("checkstyle"))
@@ -305,20 +306,27 @@ def test_places_in_each_format(lint):
         return lint("--served", "--select", "R", "--format", form, "example", "z")[2]
 
     places = [(6, 6, 6, 17), (7, 1, 7, 5), (9, 5, 9, 5)]
-    wanted = [(f"{line}:{column}-{end}:{last}", code) for (line, column, end, last), code in zip(places, ["R13.3", "R07.1", "R03"])]
+    wanted = [(f"{line}:{column}-{end}:{last}", code)
+              for (line, column, end, last), code in zip(places, ["R13.3", "R07.1", "R03"])]
     Path("z").write_text(PLACED)
     assert re.findall(r"^(\d+:\d+-\d+:\d+) (R.*)$", run("zonefaults", "example", "z").stdout, re.M) == wanted
     ends = ("column", "end_line", "end_column")
     assert [(one["line"], *(one[end] for end in ends)) for one in json.loads(read("json"))] == places
-    regions = [one["locations"][0]["physicalLocation"]["region"] for one in json.loads(read("sarif"))["runs"][0]["results"]]
-    assert [tuple(region[key] for key in ("startLine", "startColumn", "endLine", "endColumn")) for region in regions] == places
+    results = json.loads(read("sarif"))["runs"][0]["results"]
+    regions = [one["locations"][0]["physicalLocation"]["region"] for one in results]
+    keys = ("startLine", "startColumn", "endLine", "endColumn")
+    assert [tuple(region[key] for key in keys) for region in regions] == places
     gitlab = [one["location"]["positions"] for one in json.loads(read("gitlab"))]
     assert [(*one["begin"].values(), *one["end"].values()) for one in gitlab] == places
+    before = {one["fingerprint"] for one in json.loads(read("gitlab"))}
+    Path("z").write_text(";\n" + PLACED)
+    assert {one["fingerprint"] for one in json.loads(read("gitlab"))} == before and len(before) == 3
+    Path("z").write_text(PLACED)
     github = re.findall(r"line=(\d+),col=(\d+),endLine=(\d+),endColumn=(\d+),", read("github"))
     assert [tuple(map(int, one)) for one in github] == places
-    assert re.findall(r'line="(\d+)" column="(\d+)"', read("checkstyle")) == [(str(one[0]), str(one[1])) for one in places]
-    text = read("text")
-    assert re.findall(r"^z:(\d+):(\d+): ", text, re.M) == [(str(one[0]), str(one[1])) for one in places]
+    begins, text = [(str(one[0]), str(one[1])) for one in places], read("text")
+    assert re.findall(r'line="(\d+)" column="(\d+)"', read("checkstyle")) == begins
+    assert re.findall(r"^z:(\d+):(\d+): ", text, re.M) == begins
     assert "\n    ns A 192.0.2.300\n         ^^^^^^^^^^^\n" in text and '\n      "b\n        ^\n' in text
 
 

@@ -20,8 +20,8 @@ def needs_rt(test):
 # what is written to each stream. zonesocket gets no socket.
 CALLS = json.loads((DATA / "calls.json").read_text())
 # Lines with six faults of entries.
-ROW = ('$TTL 60\n@ SOA ns h 1 2 3 4 5\n@ NS ns\nns A 192.0.2.300\nwww 1h A 192.0.2.1\nmx MXX 10 ns\nt TXT ( "a"\n  "b\n)\n'
-       'b..c A 192.0.2.1\n')
+ROW = ('$TTL 60\n@ SOA ns h 1 2 3 4 5\n@ NS ns\nns A 192.0.2.300\nwww 1h A 192.0.2.1\nmx MXX 10 ns\n'
+       't TXT ( "a"\n  "b\n)\nb..c A 192.0.2.1\n')
 LOADED = "zone example/IN: loaded serial 1\nOK\n"
 
 
@@ -51,7 +51,8 @@ FULL = SOUND + b"".join(b"w%d A 192.0.2.2\n" % number for number in range(99_997
     (SOUND + b"w A x\n" + b"\n" * (2**24 - 58), "5:5-5:6 R13.3\n"),
     (SOUND + b"w A x\n" + b"\n" * (2**24 - 58) + b"y A x\n", "5:5-5:6 R13.3\n16777164:1-16777164:2 R15\n"),
     (SOUND + b"w A x\n" + b";" * 2**24, "5:5-5:6 R13.3\n6:16777159-6:16777160 R15\n")],
-    ids=["empty", "2,000 faults", "1,000 faults", "100,000 records", "more records", "16 MiB", "more octets", "a long comment"])
+    ids=["empty", "2,000 faults", "1,000 faults", "100,000 records", "more records", "16 MiB", "more octets",
+         "a long comment"])
 def test_the_limits_of_zonefaults(programs, tmp_path, text, wanted):
     """Also from a pipe, in which it can't look at the size of the file."""
     file = tmp_path / "zone"
@@ -62,7 +63,8 @@ def test_the_limits_of_zonefaults(programs, tmp_path, text, wanted):
         assert (done.returncode, done.stdout.decode(), done.stderr) == (int(wanted != ""), wanted, b"")
 
 
-@pytest.mark.parametrize("program, words, output", [("zonecheck", [], LOADED), ("zonefaults", [], ""), ("zoneserve", ["once"], "")])
+@pytest.mark.parametrize("program, words, output", [
+    ("zonecheck", [], LOADED), ("zonefaults", [], ""), ("zoneserve", ["once"], "")])
 def test_the_name_of_a_program_need_not_be_utf_8(programs, tmp_path, program, words, output):
     named = os.fsencode(tmp_path / program) + b"\xff"
     shutil.copy(programs / program, named)
@@ -76,7 +78,7 @@ def test_an_output_that_fails(programs, tmp_path, option, device):
     zone = EXAMPLES / "example.zone"
     if option == "faults":
         zone = tmp_path / "many.zone"
-        zone.write_bytes(SOUND + b"".join(b"w%d CNAME ns\nw%d A 192.0.2.2\n" % (number, number) for number in range(10_000)))
+        zone.write_bytes(SOUND + b"".join(b"w%d CNAME ns\nw%d A 192.0.2.2\n" % (at, at) for at in range(10_000)))
         done = run("bash", "-c", f"zonefaults example {zone} {device}")
         assert (done.returncode, done.stderr) == (2, "P1\n")
         return

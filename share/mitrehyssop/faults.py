@@ -14,8 +14,7 @@ import tempfile
 from pathlib import Path
 
 import bind
-from master import LINES, Names, Reader, Record, Refused, address, escaped, name, read, refuse, split, twice, unique, within
-from remedies import FORMS, Remedy
+from master import FORMS, LINES, Names, Reader, Record, Refused, address, escaped, name, read, refuse, split, twice, unique, within
 from reports import Report, plain
 
 MOST, EACH = 100, 5         # the most faults, and the most of a code, that are reported as text for a file
@@ -173,6 +172,7 @@ class Zone:
         key = place, span and span[0], spot.code
         if key not in self.seen and begun not in self.mended and not (spot.code == "R08" and reader.lost):
             self.seen.add(key)
+            from remedies import Remedy  # Most zones need none.
             remedy = Remedy(self, reader, spot)
             self.partial = self.partial or remedy.tokens[:1] and remedy.tokens[0].upper() in ("$INCLUDE", "$GENERATE")
             self.found(place, spot.code, remedy.says, span=span, entry=begun)

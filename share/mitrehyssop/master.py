@@ -30,6 +30,10 @@ NUMBERS = {rtype: "TYPE" + number for rtype, number in zip(TYPES[::2], TYPES[1::
 OTHERS = [rtype for rtype in NUMBERS if rtype not in KINDS]
 NAMES = {number: rtype for rtype, number in NUMBERS.items()}
 NAMED = {NUMBERS[rtype]: rtype for rtype in KINDS}
+# The first octets of files that are not plain text, and the message for each.
+BIND = "the file is in the {0} format of BIND: `named-compilezone -f {0} -F text -o NEW ORIGIN FILE` writes it as text"
+UTF16 = "the file is UTF-16: `iconv -f UTF-16 -t UTF-8 FILE` writes it in octets"
+FORMS = {"\0\0\0\2": BIND.format("raw"), "\0\0\0\3": BIND.format("map"), "\xff\xfe": UTF16, "\xfe\xff": UTF16}
 # The beginning of a line that looks like an entry.
 BEGIN = re.compile(r"\$[A-Z]+[ \t]|(?:[^ \t;\"()][^ \t;\"()]*)?[ \t]+(?:(?:\d[\dwdhms]*|IN)[ \t]+){0,2}(?:TYPE\d+|"
                    + "|".join([*KINDS, *OTHERS, "DS"]) + r")[ \t(]", re.I)

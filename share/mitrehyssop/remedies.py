@@ -2,62 +2,23 @@
 import difflib
 import itertools
 import re
+import tomllib
 import unicodedata
+from pathlib import Path
 
-from master import (BEGIN, KINDS, NAMED, NUMBERS, OTHERS, PIECE, Entry, Reader, address, digits, escaped, name, octets, unquoted)
+from master import (BEGIN, FORMS, KINDS, NAMED, NUMBERS, OTHERS, PIECE, Entry, Reader, address, digits, escaped, name, octets, unquoted)
 
-TAKES = {"A": "an IPv4 address: four numbers from 0 to 255", "NS": "the name of a server", "CNAME": "a name",
-         "SOA": "two names and five plain numbers: serial, refresh, retry, expire, minimum", "HINFO": "two strings",
-         "MX": "a number from 0 to 65535 and the name of a host", "TXT": "strings of at most 255 octets each",
-         "AAAA": "an IPv6 address in groups of hex digits alone", "PTR": "a name",
-         "SRV": "three numbers, priority, weight and port, and the name of a host"}
+with open(Path(__file__).with_suffix(".toml"), "rb") as tables:
+    TEXTS = tomllib.load(tables)
+TAKES, OWNERS, TABLES = TEXTS["takes"], TEXTS["owners"], TEXTS["tables"]
 LARGEST = {"H": 65535, "L": 4294967295, "T": 2147483647}
 # The types that a misspelled type may mean.
 COMMON = [*KINDS, "CAA", "TLSA", "SSHFP", "NAPTR", "HTTPS", "SVCB", "URI", "LOC", "RP", "CERT", "DS", "CDS", "DNSKEY", "CDNSKEY", "SMIMEA"]
-# The first octets of files that are not plain text, and the message for each.
-BIND = "the file is in the {0} format of BIND: `named-compilezone -f {0} -F text -o NEW ORIGIN FILE` writes it as text"
-UTF16 = "the file is UTF-16: `iconv -f UTF-16 -t UTF-8 FILE` writes it in octets"
-FORMS = {"\0\0\0\2": BIND.format("raw"), "\0\0\0\3": BIND.format("map"), "\xff\xfe": UTF16, "\xfe\xff": UTF16}
-# Stray characters that other programs leave in texts: the characters, as in the brackets of a pattern; what replaces each; the
-# message. Octets that are not UTF-8 are \udc80 to \udcff here, and are read as Windows-1252.
-STRAY = [("\ufeff", "", "a byte order mark: take it out"),
-         ("\u201c\u201d\u201e\u201f\udc93\udc94\udc84", '"', 'a curly quotation mark: write " for each'),
-         ("\u2018\u2019\u201a\udc91\udc92", "'", "a curly apostrophe: write ' for each"),
-         ("\u200b\u200c\u200d\u2060\u00ad", "", "an invisible character: take it out"),
-         ("\u2010\u2011\u2012\u2013\u2014\u2212\udc96\udc97", "-", "a special dash: write - for each"),
-         ("\u00a0\u202f\u3000\udca0\u2000-\u200a", " ", "a special space: write a space"),
-         ("\r", "", "a CR that is not before LF: take it out"),
-         ("\0-\x08\x0b\x0c\x0e-\x1f\x7f", "", "a control character: take it out")]
+# Octets that are not UTF-8 are \udc80 to \udcff here.
+STRAY = [(re.sub("[\uf780-\uf7ff]", lambda c: chr(ord(c[0]) - 0xf700 + 0xdc00), characters), *others)
+         for characters, *others in TABLES["stray"]]
 NOT_ASCII = re.compile(f"[^\\0-\x7f{''.join(characters for characters, _, _ in STRAY)}]")
 TIME = "a plain number of seconds up to 2147483647"
-UNSIGNED = "{0} is a type of DNSSEC, which is not served here. Serve the zone by another server; or take "
-END = r"(?=[ \t\r;()]|$)"
-# Messages by a pattern: the code of the fault; the pattern of what begins at its place; the message; and, if the remedy is sure,
-# what replaces the match.
-RULES = [
-    ("R02", r"(?<=[ \t])\\\s*$",
-     "a backslash does not join two lines: take it out, and write parentheses around data on several lines", None),
-    ("R02", "", "a backslash that begins no escape: write \\\\ for a backslash itself; an octet is \\000 to \\255", None),
-    ("R08", "", "the line begins with a blank, and no owner is before it: write @ for the origin, or another owner", None),
-    ("R10", r"([^ \t;()]+)", "the class {0}: only IN is known; write IN, or no class", None),
-    ("R11", rf"(IN){END}[ \t]*", "{0}: the class is there twice, or the type is missing: take one out", ""),
-    ("R11", rf"(\d\w*){END}[ \t]*", "{0}: the TTL is there twice, or the type is missing: take one out", ""),
-    ("R11", rf"(ALIAS|ANAME){END}", "{0} is not a DNS type: write the A and AAAA records of its target", None),
-    ("R11", rf"(DS|TYPE43){END}", UNSIGNED + "the record out, and after its TTL stop signing the zone below", None),
-    ("R11", rf"(DNSKEY|RRSIG|NSEC|NSEC3|NSEC3PARAM|TYPE46|TYPE47|TYPE48|TYPE50|TYPE51){END}",
-     UNSIGNED + "its DS out at the parent, if there is one, wait as long as the TTL of the DS says, "
-     "and then take this record out", None),
-    ("R11", rf"(DNAME|TYPE39){END}", "{0} is not served here: write a CNAME record for each name instead", None),
-    ("R14", "", "more than 100,000 records: split the zone", None),
-    ("R15", "", "more than 16,777,216 octets: split the zone", None)]
-# What is wrong with an owner, by the number of R07.
-OWNERS = {1: "an empty label: no two dots follow one another", 2: "a label of more than 63 octets", 3: "more than 255 octets"}
-# Corrections of data that lacks a field or has two fields in the wrong order: a pattern, and the message.
-FIELDS = [(r"MX (\d+)([A-Za-z]\S*)", "a blank is missing: write MX {0} {1}"),
-          (r"MX (?!\d+ )(\S+) (\d+)", "the number is first: write MX {1} {0}"),
-          (r"MX (?!\d+$)(\S+)", "the number is missing: write MX 10 {0}"),
-          (r"SOA \S+ \d\w*(?: \S+){4}", "6 fields, and not 7: the second name is missing, the mailbox: write hostmaster after the first"),
-          (r"SOA(?: \S+){6}", "6 fields, and not 7: one of the five numbers is missing: write 3600 at the end, if it is the minimum")]
 
 
 class Remedy(Entry):
@@ -95,11 +56,11 @@ class Remedy(Entry):
         return not self.closed and (self.spot.line >= self.end or self.spot.code == "R04" and self.word != "(")
 
     def rule(self):
-        for code, pattern, says, new in RULES:
+        for code, pattern, says, *new in TABLES["rules"]:
             found = re.compile(pattern, re.I).match(self.line, self.cut[0]) if code == self.spot.code else None
             if found:
                 self.cut = found.span()
-                return says.format(*map(str.upper, found.groups())), new
+                return says.format(*map(str.upper, found.groups())), new[0] if new else None
         return None
 
     def misplaced(self, token, place):
@@ -193,8 +154,7 @@ class Remedy(Entry):
 
     def r07(self):
         first, (_, good) = self.tokens[0], as_name(self.tokens[0], self.reader.origin)
-        why = OWNERS.get(self.spot.number, "quotation marks")
-        return f"{first} is not a name, since it has {why}: write {good or 'another'}"
+        return f"{first} is not a name, since it has {OWNERS[str(self.spot.number)]}: write {good or 'another'}"
 
     def r09(self):
         instead, (_, value) = self.reader.default or "3600", as_number(self.word, "T")
@@ -233,7 +193,7 @@ class Remedy(Entry):
             data, _ = self.generic()
             return f"{rtype} takes \\#, a length and hex digits" + (f": write {data}" if data else "")
         takes, text = f"{rtype} takes {TAKES[rtype]}", " ".join([rtype, *self.data])
-        for pattern, says in FIELDS:
+        for pattern, says in TABLES["fields"]:
             if found := re.fullmatch(pattern, text):
                 return f"{takes}; {says.format(*found.groups())}"
         if number == 1:
