@@ -330,6 +330,14 @@ def test_places_in_each_format(lint):
     assert "\n    ns A 192.0.2.300\n         ^^^^^^^^^^^\n" in text and '\n      "b\n        ^\n' in text
 
 
+@pytest.mark.parametrize("lines", [
+    't TXT ( "a\n "b"\n )', 't TXT "a\n b"', 't TXT ( "a" (\n "b" ) )', "w..w A 192.0.2.1\n AAAA ::1",
+    "@ SOA ns h\n 1\n 2 3 4 5", "t TXT ( a"])
+def test_a_fault_is_reported_without_what_results_from_it(lint, lines):
+    _, found, said = lint("--served", "--select", "R", "example", "z", text=SERVED + lines + "\nx A y\n")
+    assert len(found) == 2 and ("R13", 6 + len(lines.split("\n"))) in found, said
+
+
 @pytest.mark.parametrize("lines, place", [
     ("\tA\t192.0.2.300", (6, 4)), ("w 1h A 192.0.2.300", (6, None)), ("t TXT ( ( a )\n  b..c\n) \\", (8, 3)),
     ("$GENERATE 1-2 a$ A 192.0.2.300", (6, None)), ("@ CAA 0 issue", (6, 3)), ("w MX ( 1h\n b..c )", (6, 8))])

@@ -114,7 +114,7 @@ class Zone:
         self.faults, self.records, self.passes, self.more, self.doubtful = [], [], False, False, collections.defaultdict(set)
         self.lints, self.notes_found, self.fixes, self.named = lints, [], set(), importer.named if importer else set()
         self.passed, self.partial = importer.passed if importer else {}, bool(importer and importer.lost)
-        self.seen, self.mended, self.split = set(), set(), {}
+        self.seen, self.mended, self.split = {}, set(), {}
 
     def passes_at_once(self):
         """Whether zonecheck passes the text. If so, sets `passes` and `records`; else returns False."""
@@ -122,7 +122,8 @@ class Zone:
         if status == 0:
             # The canonical text has a record on each line.
             rows = (line.split(" ", 4) for line in said.splitlines())
-            self.records = [Record(owner, ttl, rtype, FIELD.findall(data)) for owner, ttl, _, rtype, data in rows]
+            self.records = [Record(owner, ttl, rtype, FIELD.findall(data) if '"' in data or "\\" in data else data.split(" "))
+                            for owner, ttl, _, rtype, data in rows]
             self.passes = True
         return self.passes
 
@@ -149,6 +150,8 @@ class Zone:
         of the zone, or None if `lines` were changed because of a fault that hides others."""
         reader, self.records, before = Reader(self.zone), [], len(self.mended)
         for spot in spots:
+            if spot.line < reader.at:
+                continue  # It results from the fault before it, in the same entry.
             self.records += reader.records(self.lines, spot.line + 1)
             if len(self.faults) >= MOST or self.text.startswith((*FORMS,)) and self.faults:
                 self.more = len(self.faults) >= MOST
@@ -170,10 +173,11 @@ class Zone:
         self.doubtful[None if spot.code in ("R05", "R06") else owner].add(rtype)
         place, span = self.exact(spot)
         key = place, span and span[0], spot.code
-        if key not in self.seen and begun not in self.mended and not (spot.code == "R08" and reader.lost):
-            self.seen.add(key)
+        until = self.seen.get(key)
+        if until is None and begun not in self.mended and not (spot.code == "R08" and reader.lost):
             from remedies import Remedy  # Most zones need none.
             remedy = Remedy(self, reader, spot)
+            until = self.seen[key] = remedy.until
             self.partial = self.partial or remedy.tokens[:1] and remedy.tokens[0].upper() in ("$INCLUDE", "$GENERATE")
             self.found(place, spot.code, remedy.says, span=span, entry=begun)
             if span and remedy.new is not None:
@@ -184,7 +188,7 @@ class Zone:
                 self.lines[line] = self.lines[line][:begin] + new + self.lines[line][end:]
                 reader.lost = reader.lost or spot.code == "R07"
                 return spot.code not in ("R06", "R07")
-        reader.at = spot.line + 1 if spot.code < "R05" else reader.at
+        reader.at = max(reader.at, 1 + (until or 0))
         return False
 
     def cut_out(self, spots):

@@ -24,14 +24,14 @@ TIME = "a plain number of seconds up to 2147483647"
 class Remedy(Entry):
     """The remedy for a fault of the entry that `reader` has just read. `spot` is what zonefaults says of it, as in faults.py.
 
-    `says` is the message. If the remedy is sure, `new` replaces the octets from `cut[0]` up to `cut[1]` of the line of the spot; else
+    `says` is the message, and `until` the last line that belongs to the entry. If the remedy is sure, `new` replaces the octets from `cut[0]` up to `cut[1]` of the line of the spot; else
     `new` is None. A method returns the message, or the message and `new`.
     """
 
     def __init__(self, zone, reader, spot):
         super().__init__(zone.lines, reader.begun)
         self.zone, self.reader, self.spot, self.line = zone, reader, spot, zone.lines[spot.line] if spot.line < len(zone.lines) else ""
-        self.cut = [spot.column - 1, spot.end_column - 1]
+        self.cut, self.until = [spot.column - 1, spot.end_column - 1], self.end - 1
         self.word = self.line[slice(*self.cut)]
         # An entry that is not closed takes in the next lines. Their faults are not its own.
         found = self.r04() if self.is_open else getattr(self, spot.code.lower(), self.rule)()
@@ -117,8 +117,10 @@ class Remedy(Entry):
         if self.line[:at].endswith('\\"'):
             return says + ', since \\" is a mark inside the string: write \\\\" for a backslash at its end'
         # If the closing mark is on a line before the next entry, the string goes on to that line.
-        near = itertools.takewhile(lambda text: not BEGIN.match(text), lines[self.spot.line + 1:self.spot.line + 61])
-        if self.closed and any(text.replace('\\"', "").count('"') % 2 for text in near):
+        near = itertools.takewhile(lambda at: not BEGIN.match(lines[at]), range(self.end, min(self.end + 60, len(lines))))
+        last = next((at for at in near if lines[at].replace('\\"', "").count('"') % 2), None)
+        if self.closed and not self.depth and last:
+            self.until = last
             return says + ": write a string on each line, and parentheses around all of them"
         new = None if self.depth and ")" in self.line[self.line.rfind('"'):] else '"'
         return says + ": close it; long texts are several strings in parentheses", new
@@ -219,7 +221,9 @@ class Remedy(Entry):
         lines, fields = self.zone.lines[self.end:self.end + 8], f"{count} field{'s' * (count != 1)}, and not {len(kinds)}"
         # The next lines belong to an SOA record if they are exactly the numbers that it lacks.
         more = itertools.accumulate([piece for piece in PIECE.findall(line) if piece[0] not in " \t\r;()"] for line in lines)
-        if rtype == "SOA" and count < 6 and any(len(data) + len(one) == 7 and all(map(digits, one)) for one in more):
+        lost = [at for at, one in enumerate(more, self.end) if len(data) + len(one) == 7 and all(map(digits, one))]
+        if rtype == "SOA" and count < 6 and lost:
+            self.until = lost[0]
             yield f"its lines are not joined: write ( at the end of {self.zone.where([self.begin])}, and ) after the last number"
         elif len(data) > len(kinds) and kinds != "s":
             hosts = all(as_name(token, self.reader.origin)[1] == token for token in data[len(kinds) - 1::len(kinds)])
