@@ -35,6 +35,7 @@ impl<'a, 'w> Model for Fields<'a, 'w> {
 }
 
 impl<'a, 'w> Fields<'a, 'w> {
+    #[inline(always)]
     pub(crate) fn of(words: EntryWords<'a, 'w>) -> Fields<'a, 'w>
         ensures { result ≡ fields (words_left words.entry) }
     {
@@ -118,6 +119,7 @@ pub(crate) fn is_other_class(stated: Option<&Word<'_>>) -> bool
     stated.is_some_and(|word| !(is_word(b"in", word.raw) || is_word(b"class1", word.raw)))
 }
 
+#[inline(always)]
 pub(crate) fn type_and_words<'a, 'w>(
     words: EntryWords<'a, 'w>,
 ) -> Option<(RType, EntryWords<'a, 'w>)>
