@@ -134,8 +134,9 @@ class Zone:
         runs, rows = 0, None
         while rows is None and not self.more:
             said, runs = ask("zonefaults", self.origin, "\n".join(self.lines))[1], runs + 1
-            rows = self.look([Spot(*(int(part) - (at in (0, 2)) for at, part in enumerate(spot[:4])), spot[4], int(spot[5] or 0))
-                              for spot in SPOT.findall(said)], "\nmore\n" in said, said)
+            spots = [Spot(int(line) - 1, int(column), int(end) - 1, int(last), code, int(number or 0))
+                     for line, column, end, last, code, number in SPOT.findall(said)]
+            rows = self.look(spots, "\nmore\n" in said, said)
             self.more = self.more or len(self.faults) >= MOST or runs == MOST_RUNS
         if self.more:
             self.records = []
@@ -146,8 +147,8 @@ class Zone:
         return self
 
     def look(self, spots, has_more, said):
-        """Reports the faults of entries that `spots` name, and reads the records of the other entries. Returns the rows for the faults
-        of the zone, or None if `lines` were changed because of a fault that hides others."""
+        """Reports the faults of entries at `spots`, and reads the records of the other entries. Returns the names and codes of the
+        zone's faults, or None if `lines` were changed because of a fault that hides others."""
         reader, self.records, before = Reader(self.zone), [], len(self.mended)
         for spot in spots:
             if spot.line < reader.at:
@@ -165,8 +166,8 @@ class Zone:
         return re.findall(r"^(.*) (Z\d\d)$", said, re.M)
 
     def take(self, reader, spot):
-        """Reports the fault of the entry that `reader` has just read, unless it was reported before. Returns whether the later spots
-        result from this fault."""
+        """Reports the fault of the entry that `reader` has just read, unless it was reported before. Returns whether the later
+        spots result from this fault."""
         begun, owner, rtype = reader.begun, reader.owner, ""
         if self.records and self.records[-1].line == begun:
             owner, _, rtype, *_ = self.records.pop()

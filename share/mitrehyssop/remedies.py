@@ -6,14 +6,15 @@ import tomllib
 import unicodedata
 from pathlib import Path
 
-from master import (BEGIN, FORMS, KINDS, NAMED, NUMBERS, OTHERS, PIECE, Entry, Reader, address, digits, escaped, name, octets, unquoted)
+from master import (BEGIN, FORMS, KINDS, NAMED, NUMBERS, OTHERS, PIECE, Entry, Reader, address, digits, escaped, name, octets,
+                    unquoted)
 
 with open(Path(__file__).with_suffix(".toml"), "rb") as tables:
     TEXTS = tomllib.load(tables)
 TAKES, OWNERS, TABLES = TEXTS["takes"], TEXTS["owners"], TEXTS["tables"]
 LARGEST = {"H": 65535, "L": 4294967295, "T": 2147483647}
 # The types that a misspelled type may mean.
-COMMON = [*KINDS, "CAA", "TLSA", "SSHFP", "NAPTR", "HTTPS", "SVCB", "URI", "LOC", "RP", "CERT", "DS", "CDS", "DNSKEY", "CDNSKEY", "SMIMEA"]
+COMMON = [*KINDS, *"CAA TLSA SSHFP NAPTR HTTPS SVCB URI LOC RP CERT DS CDS DNSKEY CDNSKEY SMIMEA".split()]
 # Octets that are not UTF-8 are \udc80 to \udcff here.
 STRAY = [(re.sub("[\uf780-\uf7ff]", lambda c: chr(ord(c[0]) - 0xf700 + 0xdc00), characters), *others)
          for characters, *others in TABLES["stray"]]
@@ -22,16 +23,17 @@ TIME = "a plain number of seconds up to 2147483647"
 
 
 class Remedy(Entry):
-    """The remedy for a fault of the entry that `reader` has just read. `spot` is what zonefaults says of it, as in faults.py.
+    """The remedy for a fault of the entry that `reader` has just read. `spot` is its place and code, as in faults.py.
 
-    `says` is the message, and `until` the last line that belongs to the entry. If the remedy is sure, `new` replaces the octets from `cut[0]` up to `cut[1]` of the line of the spot; else
-    `new` is None. A method returns the message, or the message and `new`.
+    `says` is the message, and `until` the last line of the entry. If the remedy is sure, `new` replaces the octets from `cut[0]` up
+    to `cut[1]` of the line of the spot; else `new` is None. A method returns the message, or the message and `new`.
     """
 
     def __init__(self, zone, reader, spot):
         super().__init__(zone.lines, reader.begun)
-        self.zone, self.reader, self.spot, self.line = zone, reader, spot, zone.lines[spot.line] if spot.line < len(zone.lines) else ""
-        self.cut, self.until = [spot.column - 1, spot.end_column - 1], self.end - 1
+        self.zone, self.reader, self.spot = zone, reader, spot
+        self.line, self.until = zone.lines[min(spot.line, len(zone.lines) - 1)], self.end - 1
+        self.cut = [spot.column - 1, spot.end_column - 1]
         self.word = self.line[slice(*self.cut)]
         # An entry that is not closed takes in the next lines. Their faults are not its own.
         found = self.r04() if self.is_open else getattr(self, spot.code.lower(), self.rule)()
@@ -39,7 +41,7 @@ class Remedy(Entry):
 
     @property
     def mending(self):
-        """What to change so that the entry hides no fault of later ones: a line, the columns of what is replaced, and a text; or None."""
+        """What to change so that the entry hides no fault of a later one: a line, the columns of what is replaced, and a text."""
         if self.is_open:
             before = "".join(self.pieces[:self.places[-1] + 1] if self.tokens else ["("]).rpartition("\n")[2]
             return self.last, len(before), len(before), ")"
@@ -52,7 +54,7 @@ class Remedy(Entry):
 
     @property
     def is_open(self):
-        """Whether a parenthesis of the entry is not closed, so that zonefaults reads the next entries as a part of it."""
+        """Whether a parenthesis of the entry is not closed, so that zonefaults takes the next entries for a part of it."""
         return not self.closed and (self.spot.line >= self.end or self.spot.code == "R04" and self.word != "(")
 
     def rule(self):
@@ -188,7 +190,7 @@ class Remedy(Entry):
     def r13(self):
         rtype, hexes, number = NAMED.get(self.rtype, self.rtype), "".join(self.data[2:]), self.spot.number
         if self.data[:1] == ["\\#"]:
-            says, is_hex = "\\# takes a length and hex digits for that number of octets", re.fullmatch(r"(?:[0-9a-fA-F]{2})*", hexes)
+            says, is_hex = "\\# takes a length and hex digits for that number of octets", re.fullmatch(r"([0-9a-fA-F]{2})*", hexes)
             do = f": write \\# {len(hexes) // 2} {hexes}".rstrip()[:70] if is_hex else ""
             return says + (f"; these are not valid for {rtype}" if number == 7 else do)
         if number == 6:

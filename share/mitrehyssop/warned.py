@@ -113,12 +113,13 @@ class Warnings(Names):
         self.dotless = (self.again, "." + self.zone + self.zone) if self.zone != "." else "\0"
         # A catalog zone (RFC 9432) has a TTL of 0 on purpose.
         self.catalog = bool(self.at("version." + self.zone, "TXT"))
+        nodes, too_many = self.nodes, f"more than {MOST_NODES:,} names own records or are above such names"
         for full in self.sets:
             for node in above(full):
-                if node in self.nodes:
+                if node in nodes:
                     break
-                self.nodes.add(node)
-            refuse(len(self.nodes) > MOST_NODES, f"more than {MOST_NODES:,} names own records or are above such names")
+                nodes.add(node)
+            refuse(len(nodes) > MOST_NODES, too_many)
         # In a response policy zone owners are names and addresses of others on purpose.
         self.policy = any(record.data[0] in POLICY for sets in self.sets.values() for record in sets.get("CNAME", ())
                           if record.data) or any(".rpz-" in full for full in self.sets)
