@@ -2,6 +2,7 @@ mod arguments;
 mod check;
 mod devices;
 mod fault;
+mod faults;
 mod load;
 mod long;
 mod message;
