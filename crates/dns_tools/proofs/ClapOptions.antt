@@ -1,5 +1,5 @@
 -- What `clap` makes of the options that the programs take.
-use Rattle.dns_tools.proofs.Common.{refl, sym, subst, ◌≡◌, ◌∙◌, ap, Bool, true, false, List, Octets, Option, Some, inl, inr, codes}
+use Rattle.dns_tools.proofs.Common.{refl, sym, subst, ◌≡◌, ◌∙◌, ap, Bool, true, false, List, Octets, Some, inl, inr, codes}
 use Rattle.std.specs.Prelude.{if◌then◌else◌, reverse}
 use Rattle.dns_spec.specs.Report.{Options}
 use Rattle.dns_spec.specs.CommandWords.{AreOptions, option_words, Transport, udp, tcp}
