@@ -7,10 +7,8 @@ import gc
 import itertools
 import os
 import re
-import shutil
 import subprocess
 import sys
-import tempfile
 from pathlib import Path
 
 import bind
@@ -31,29 +29,26 @@ Spot = collections.namedtuple("Spot", "line column end_line end_column code numb
 LIMITS = {"R14": "more than 100,000 records: the rest was not checked", "R15": "more than 16,777,216 octets: the rest was not checked",
           "Z14": "a set of more than 64 records", "Z15": "more than 32 types at a name"}
 BOM = "\xef\xbb\xbf"
+TOP = Path(__file__).resolve().parents[2]
 
 
 def ask(program, origin, text, *options):
     """The status and the output of zonecheck or zonefaults for a text."""
-    top = Path(__file__).resolve().parents[2]
-    places = [top / "bin" / program, top / "crates" / program / "out" / program]
-    found = shutil.which(program) or next((str(place) for place in places if place.exists()), program)
-    with tempfile.TemporaryFile() as said:
-        try:
-            done = subprocess.run([found, *options, origin, "/dev/stdin"], input=text.encode("latin-1"),
-                                  stdout=said, stderr=subprocess.PIPE, check=False)
-        except (OSError, ValueError) as error:
-            raise Refused(f"{found}: {getattr(error, 'strerror', None) or error}") from None
-        refuse(said.seek(0, os.SEEK_END) > MOST_TEXT, f"the canonical text has more than {MOST_TEXT:,} octets")
-        said.seek(0)
-        report = said.read().decode("latin-1")
+    try:
+        done = subprocess.run([program, *options, origin, "/dev/stdin"], input=text.encode("latin-1"), capture_output=True)
+    except (OSError, ValueError) as error:
+        raise Refused(f"{program}: {getattr(error, 'strerror', None) or error}") from None
+    refuse(len(done.stdout) > MOST_TEXT, f"the canonical text has more than {MOST_TEXT:,} octets")
     refuse(done.returncode not in (0, 1), f"{program}: {done.stderr.decode('latin-1').strip() or f'status {done.returncode}'}")
-    return done.returncode, report
+    return done.returncode, done.stdout.decode("latin-1")
 
 
 def run(program, main):
     """Runs `main`, and exits with its status, or with 2 if it raises an exception: 1 would mean that a zone has faults."""
     gc.disable()  # There are many records, and no cycles worth collecting.
+    # The programs are on the path, or beside this one, or built in this source.
+    places = [TOP / "bin", *TOP.glob("crates/zone*/out")]
+    os.environ["PATH"] = ":".join([os.environ.get("PATH", os.defpath), *map(str, places)])
     sys.stderr = sys.stderr or open(os.devnull, "w", encoding="ascii")  # A closed stream is None.
     try:
         refuse(not sys.stdout, "standard output is closed")
@@ -99,7 +94,7 @@ def imported(origin, text, path, folder, lints=False, reads=read):
 class Zone:
     """A zone file, and all that is found about it.
 
-    `lines` are its lines. `places` are as in an importer, if one made the lines; else None. `notes` has the importer's message for
+    `lines` are its lines. `places` are as in an importer, if one made the lines; else empty. `notes` has the importer's message for
     each line that it could not convert. `doubtful` has for each name the types of its faulty entries. `partial` means that
     included lines are unknown. `sources` has the text of each file. `more` means that there may be unreported faults. `fixes` has
     the remedies that are sure: a file, a line, the columns of what is replaced, and a text.
@@ -107,13 +102,11 @@ class Zone:
 
     def __init__(self, origin, text, path, importer=None, lints=False):
         self.origin, self.path, self.text, self.zone = origin, path, text, absolute(origin)
-        self.lines = importer.lines if importer else text.split("\n") if text.startswith((*FORMS,)) else split(text, path)
-        self.places, self.notes, self.sources = None, None, {path: text}
-        if importer:
-            self.places, self.notes, self.sources = importer.places, importer.notes, importer.sources
+        made = importer or bind.Importer(self.zone, ".")
+        self.places, self.notes, self.passed, self.named, self.partial = made.places, made.notes, made.passed, made.named, made.lost
+        self.lines = made.lines or (text.split("\n") if text.startswith((*FORMS,)) else split(text, path))
+        self.sources, self.lints, self.notes_found, self.fixes = made.sources or {path: text}, lints, [], set()
         self.faults, self.records, self.passes, self.more, self.doubtful = [], [], False, False, collections.defaultdict(set)
-        self.lints, self.notes_found, self.fixes, self.named = lints, [], set(), importer.named if importer else set()
-        self.passed, self.partial = importer.passed if importer else {}, bool(importer and importer.lost)
         self.seen, self.mended, self.split = {}, set(), {}
 
     def passes_at_once(self):
@@ -159,7 +152,7 @@ class Zone:
                 return []
             if self.take(reader, spot):
                 return None
-        self.records += reader.records(self.lines) if not spots or spots[-1].code < "R14" or self.notes is not None else ()
+        self.records += reader.records(self.lines) if not spots or spots[-1].code < "R14" or self.places else ()
         if len(self.mended) > before or has_more and self.cut_out(spots):
             return None
         self.more = has_more
@@ -218,10 +211,15 @@ class Zone:
     def exact(self, spot):
         """The place of a spot, and its span if the line is in the file as it was checked."""
         file, number = self.place(min(spot.line, len(self.lines) - 1))
-        lines = self.split.setdefault(file, self.sources[file].split("\n") if self.places and file not in self.split else ())
-        if self.places and lines[number - 1:number] != self.lines[spot.line:spot.line + 1]:
+        if self.places and self.lines[spot.line:spot.line + 1] != [self.line(file, number)]:
             return (file, number), None
         return (file, number), (spot.column, number + spot.end_line - spot.line, spot.end_column)
+
+    def line(self, file, number):
+        """A line of a file as it was read."""
+        if file not in self.split:
+            self.split[file] = self.sources[file].split("\n")
+        return self.split[file][number - 1] if number <= len(self.split[file]) else ""
 
     def where(self, lines):
         """The places of these lines, at most three, in the words of a message."""
@@ -235,16 +233,13 @@ class Zone:
 
     def report(self, found, severity):
         """These faults, warnings and notes with their lines, as far as they have a severity."""
-        wanted = {fault.place for fault in found}
-        lines = {(file, number): line[1] for file in {file for file, _ in wanted}
-                 for number, line in enumerate(re.finditer(r"([^\n]*)\n?", self.sources[file]), 1) if (file, number) in wanted}
         return [Report(file, line, *(span or (None, None, None)), severity(code), code, owner, escaped(message[:2000]),
-                       escaped(lines.get((file, line), "").rstrip("\r").replace("\t", " ")[:300]))
+                       escaped(self.line(file, line).rstrip("\r").replace("\t", " ")[:300]))
                 for (file, line), code, owner, message, span in found if severity(code)]
 
     def found(self, place, code, text, owner="", span=None, entry=None):
         """Adds a fault."""
-        text = self.notes.get(entry, text) if self.notes and code in ("R05", "R11", "R13") else text
+        text = self.notes.get(entry, text) if code in ("R05", "R11", "R13") else text
         if self.lints and code in LIMITS:
             self.notes_found.append(Fault(place, "N02", owner, f"{LIMITS[code]}: zoneserve does not serve that", span))
         elif self.faults[-1:] != [Fault(place, code, owner, text, span)]:
