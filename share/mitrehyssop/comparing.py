@@ -11,7 +11,7 @@ import dns.query
 from dns.flags import AA, TC
 from dns.rcode import FORMERR, NOERROR, NOTIMP, NXDOMAIN, REFUSED, SERVFAIL
 from dns.rdatatype import CNAME, DNSKEY, HINFO, NS, NSEC, NSEC3, NSEC3PARAM, RRSIG, SOA
-from master import Refused, above
+from master import Refused
 from questions import KINDS, Question
 
 SECONDS, TRIES = 2, 2       # how long a server may take to reply, and how often it is asked
@@ -122,17 +122,15 @@ def header(reply):
 
 
 class Judge:
-    """Compares replies with the proved ones. `present` are the names that exist in the zone."""
+    """Compares replies with the proved ones."""
 
-    def __init__(self, names, present, options):
-        self.names, self.present, self.origin = names, present, dns.name.from_text(names.zone)
+    def __init__(self, names, options):
+        self.names, self.origin = names, dns.name.from_text(names.zone)
         self.exact, self.left_out = options.exact, SIGNING | ({SOA} if options.any_soa else set())
 
     def owns(self, rrset):
         """Whether a record is in the zone, by itself or by the wildcard that covers its owner."""
-        full = rrset.name.canonicalize().to_text()
-        if full not in self.present:
-            full = f"*.{next(upper for upper in above(full) if upper in self.present).lstrip('.')}"
+        full = self.names.covering(rrset.name.canonicalize().to_text())
         rows = self.names.at(full, dns.rdatatype.to_text(rrset.rdtype), f"TYPE{rrset.rdtype:d}")
         return any(rrset[0] == dns.rdata.from_text("IN", rrset.rdtype, " ".join(row.data)) for row in rows)
 

@@ -43,6 +43,7 @@ QUICK = re.compile(rf"({PLAIN})?[ \t]+(?:(\d+)[ \t]+)?(?:IN[ \t]+)?(A|AAAA|NS|CN
 LARGEST = 16777216  # the most octets of a file; one more is read, to see whether there are more
 # The most lines of a file, octets of a line, pieces of an entry and of a file, so that they do not take too much memory and time.
 LINES, LONGEST, LARGE_ENTRY, PIECES = 1000000, 1000000, 500000, 3000000
+MOST_NODES = 1000000
 UNITS = {"w": 604800, "d": 86400, "h": 3600, "m": 60, "s": 1, "": 1}
 # `data` has the fields as in the canonical text; `line` is the entry's first line, counted from 0, and `last` its last token.
 Record = collections.namedtuple("Record", "owner ttl rtype data line last", defaults=(None, ""))
@@ -334,10 +335,30 @@ class Names:
         found = [cut for cut in above(full) if cut in self.cuts] if self.cuts else []
         return found[-1] if found else None
 
+    @functools.cached_property
+    def nodes(self):
+        """The names that exist, in order: owners of records, and the names above them up to the root."""
+        nodes = {}
+        for full in self.sets:
+            for node in above(full):
+                if node in nodes:
+                    break
+                nodes[node] = True
+            refuse(len(nodes) > MOST_NODES, f"more than {MOST_NODES:,} names own records or are above such names")
+        return nodes
+
+    def covering(self, full):
+        """The name; or, if it does not exist, the wildcard that covers it."""
+        closest = next(node for node in above(full) if node in self.nodes)
+        return full if full == closest else "*." + closest.lstrip(".")
+
+    def alias(self, full):
+        return self.at(full, "CNAME")
+
     def aliased(self, full, before=(), most=None):
         """The name to which a chain of aliases leads, and the names before it: at most `most`, `before` included."""
         names = list(before)
-        while full not in names and len(names) != most and self.at(full, "CNAME"):
+        while full not in names and len(names) != most and (alias := self.alias(full)):
             names.append(full)
-            full = self.at(full, "CNAME")[0].data[0]
+            full = alias[0].data[0]
         return full, names

@@ -2,7 +2,7 @@
 import collections
 import random
 
-from master import KINDS as TYPES, Names, above, name, within
+from master import KINDS as TYPES, Names, name, within
 
 # The kinds of questions, each with the section of an RFC that says what the reply is.
 KINDS = {"records": "RFC 1034 4.3.2", "alias": "RFC 1034 3.6.2", "no data": "RFC 2308 2.2", "empty name": "RFC 4592 2.2.2",
@@ -14,9 +14,8 @@ Question = collections.namedtuple("Question", "kind name rtype")
 
 
 def every(zone, all_types):
-    """All questions about a zone, each with its kind; its records by their names; and all names that exist in it."""
+    """All questions about a zone, each with its kind; and its records by their names."""
     names, asked, more = Names(zone, zone.records), {}, ("SRV", *TYPES, "ANY") if all_types else ("SRV",)
-    present = dict.fromkeys(full for owner in names.sets for full in above(owner) if within(full, names.zone))
 
     def ask(kind, full, *types):
         for rtype in types if len(full) < 240 or name(full, ".") else ():  # The name below a long one may be too long.
@@ -24,8 +23,10 @@ def every(zone, all_types):
 
     def missing(full):
         below = f"zz-none.{full.lstrip('.')}"
-        return missing(below) if below in present else below
-    for full in present:
+        return missing(below) if below in names.nodes else below
+    for full in names.nodes:
+        if not within(full, names.zone):
+            continue
         own = names.sets.get(full, {})
         kind = "referral" if names.cut(full) else "alias" if "CNAME" in own else None
         lacked = next(rtype for rtype in LACKED if rtype not in own)
@@ -35,11 +36,11 @@ def every(zone, all_types):
             covered = missing(full[2:] or ".")
             for below in (covered, missing(covered)):
                 ask(kind or "wildcard", below, *own, lacked)
-        if f"*.{full.lstrip('.')}" not in present:
+        if f"*.{full.lstrip('.')}" not in names.nodes:
             ask("referral" if kind == "referral" else "no such name", missing(full), "A", "TXT")
     ask("capitals", names.zone.upper(), "SOA")
     ask("outside", OUTSIDE[within(OUTSIDE[0], names.zone)], *["A"] * (names.zone != "."))
-    return asked, names, present
+    return asked, names
 
 
 def sample(asked, most, seed):

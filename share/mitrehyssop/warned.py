@@ -1,6 +1,4 @@
 """Warnings about a zone: likely mistakes that may be intended. docs/CODES.md has each with its RFC and what to do."""
-import base64
-import binascii
 import difflib
 import functools
 import ipaddress
@@ -8,11 +6,13 @@ import itertools
 import re
 
 from faults import Fault
-from master import Names, above, address, octets, refuse, twice, unique, within
+from master import Names, above, address, octets, twice, unique, within
 
-MOST_NODES = 1000000
 HOST = re.compile(r"(?:\*\.)?(?:[a-z0-9](?:[a-z0-9-]*[a-z0-9])?\.)+|(?:.*\.)?gc\._msdcs\..*")
 FOUR = re.compile(r"\d+\.\d+\.\d+\.\d+\.")
+# The names for addresses, as far as their labels have no other signs, which those of delegations have; and those of whole addresses.
+REVERSE = re.compile(r"(?:\w\.)*ip6\.arpa\.|(?:\d+\.)*in-addr\.arpa\.")
+ADDRESS = re.compile(r"(?:[0-9a-f]\.){32}ip6\.arpa\.|(?:0*(?:25[0-5]|2[0-4]\d|1?\d?\d)\.){4}in-addr\.arpa\.")
 # An instance of a service (RFC 6763 4.1) may have a label before it.
 SERVICE = re.compile(r"(?:(?:[^.\\]|\\.)+\.)?_[^.]+\._[^.]+\.")
 # For each beginning of a text: a pattern of the names where such a text has a meaning, an example, and what it has to contain.
@@ -36,43 +36,30 @@ SPF = re.compile(rf"(?i)[-+?~]?(?:all|include:{DOMAIN}|(?:a|mx)(?::{DOMAIN})?(?:
 URIS = r"(?:\s*mailto:[^\s,!@]+@[^\s,!]+(?:![0-9]+[kmgt]?)?\s*(?:,|$))+"
 DMARC = {"p": "none|quarantine|reject", "sp": "none|quarantine|reject", "pct": r"\d\d?|100", "adkim": "[rs]", "aspf": "[rs]",
          "rua": URIS, "ruf": URIS}
+BASE64 = re.compile("(?:[A-Za-z0-9+/]{4})*(?:[A-Za-z0-9+/]{2}==|[A-Za-z0-9+/]{3}=)?")
 UNUSABLE = [ipaddress.ip_network(net) for net in ("0.0.0.0/8", "127.0.0.0/8", "169.254.0.0/16", "224.0.0.0/3", "::/127",
                                                   "::ffff:0:0/96", "fe80::/10", "ff00::/8")]
 
 
 def spf_faults(text):
     """What is wrong with the terms of an SPF text."""
-    terms = text.split(" ")[1:]
-    names = [term.lstrip("+-?~").lower() for term in terms if term]
-    for term in filter(None, terms):
-        bare = term.lstrip("+-?~")
+    terms = [term for term in text.split(" ")[1:] if term]
+    names = [term.lstrip("+-?~").lower() for term in terms]
+    for term, name in zip(terms, names):
         try:
-            wrong = not SPF.fullmatch(term) or bare[:4] in ("ip4:", "ip6:") and \
-                ipaddress.ip_network(bare[4:], False).version != int(bare[2])
+            sound = SPF.fullmatch(term) and (name[:4] not in ("ip4:", "ip6:")
+                                             or ipaddress.ip_network(name[4:], False).version == int(name[2]))
         except ValueError:
-            wrong = True
-        if wrong:
+            sound = False
+        if not sound:
             yield f"{term} is not a term of SPF, so the whole text is void"
-    if "all" in names[:-1] and any(not re.match(r"exp=", name) for name in names[names.index("all") + 1:]):
+    if "all" in names and not all(name.startswith("exp=") for name in names[names.index("all") + 1:]):
         yield "what stands after all is never used"
     if any(term.lower() in ("+all", "all") for term in terms):
         yield "+all lets everybody send mail in this name"
     count = sum(bool(re.match(r"include:|a\b|mx\b|ptr\b|exists:|redirect=", name)) for name in names)
     if count > 10:
         yield f"{count} terms need look-ups, but more than 10 make the text void"
-
-
-def is_base64(text):
-    try:
-        return bool(base64.b64decode(re.sub(r"\s", "", text), validate=True)) or not text.strip()
-    except binascii.Error:
-        return False
-
-
-def mailbox(name):
-    """The form that DNS has of a mailbox with an @: a dot for it, and a backslash before each dot of the part before it (RFC 1035 8)."""
-    local, _, domain = name.partition("\\@")
-    return local.replace(".", "\\.") + "." + domain
 
 
 def caa_fault(data):
@@ -106,39 +93,25 @@ class Warnings(Names):
 
     def __init__(self, zone):
         super().__init__(zone, zone.records if zone.passes else unique(zone.records))
-        self.nodes, self.arpa = set(), self.zone.endswith("arpa.")
-        self.ends = tuple(end + self.zone for end in (".com.", ".org.", ".arpa."))
+        self.arpa, self.ends = self.zone.endswith("arpa."), tuple(end + self.zone for end in (".com.", ".org.", ".arpa."))
         last = self.zone.split(".")[-2:-1]
         self.again = f".{self.zone}{last[0]}." if last and last[0] else "\0"
         self.dotless = (self.again, "." + self.zone + self.zone) if self.zone != "." else "\0"
         # A catalog zone (RFC 9432) has a TTL of 0 on purpose.
         self.catalog = bool(self.at("version." + self.zone, "TXT"))
-        nodes, too_many = self.nodes, f"more than {MOST_NODES:,} names own records or are above such names"
-        for full in self.sets:
-            for node in above(full):
-                if node in nodes:
-                    break
-                nodes.add(node)
-            refuse(len(nodes) > MOST_NODES, too_many)
         # In a response policy zone owners are names and addresses of others on purpose.
         self.policy = any(record.data[0] in POLICY for sets in self.sets.values() for record in sets.get("CNAME", ())
                           if record.data) or any(".rpz-" in full for full in self.sets)
         self.glue = {record.data[0] for sets in self.sets.values() for record in sets.get("NS", ())}
 
-    def aliased(self, full, before=(), most=None):
-        """As in Names, but a name that does not exist has the alias of the wildcard that matches it."""
-        names = list(before)
-        while full not in names and len(names) != most:
-            closest = next((node for node in above(full) if node in self.nodes), full)
-            alias = self.at(full, "CNAME") if full == closest else self.at("*." + closest.lstrip("."), "CNAME")
-            if not alias or not within(full, self.zone) or full != closest and self.cut(full):
-                break
-            names.append(full)
-            full = alias[0].data[0]
-        return full, names
+    def alias(self, full):
+        """As in Names, but a name that does not exist has the alias of the wildcard that covers it."""
+        source = self.covering(full)
+        return self.at(source, "CNAME") if within(full, self.zone) and (source == full or not self.cut(full)) else []
 
     def look(self):
-        looks = {"SOA": self.soa, "TXT": self.text, **dict.fromkeys(("NS", "CNAME", "PTR", "MX", "SRV"), self.target)}
+        looks = {"SOA": self.soa, "TXT": self.text, **dict.fromkeys(("NS", "CNAME", "PTR", "MX", "SRV"), self.target),
+                 **dict.fromkeys(RAW, self.raw)}
         for full, sets in self.sets.items():
             if not within(full, self.zone):
                 continue
@@ -146,14 +119,9 @@ class Warnings(Names):
             for rtype, records in sets.items():
                 look = looks.get(rtype)
                 for record in records:
-                    if record.data[:1] == ["\\#"]:
-                        data = bytes.fromhex("".join(record.data[2:])) if rtype in RAW else b""
-                        if len(data) > 2 and (says := RAW[rtype][0](data)):
-                            yield record, RAW[rtype][1], True, says
-                        continue
                     if record.ttl == "0" and not self.catalog:
                         yield record, "W06", True, "the TTL is 0: each question reaches the server"
-                    if look:
+                    if look and (rtype in RAW or record.data[:1] != ["\\#"]):
                         for row in look(record):
                             if row[1]:
                                 yield record, *row
@@ -163,6 +131,11 @@ class Warnings(Names):
             same = len(hosts) > 1 and 0 < len(hosts[0]) <= 2 and all(host == hosts[0] for host in hosts)
             yield server, "W01", len(hosts) == 1, "the zone has only one server"
             yield server, "W05", same, f"all servers have the same address: {' and '.join(sorted(hosts[0]))}"
+
+    def raw(self, record):
+        data, (fault_of, code) = bytes.fromhex("".join(record.data[2:])), RAW[record.rtype]
+        says = fault_of(data) if len(data) > 2 else None
+        yield code, says, says
 
     def owner(self, full, sets):
         record, hosts = next(iter(sets.values()))[0], sets.get("A") or sets.get("AAAA") or ()
@@ -177,7 +150,7 @@ class Warnings(Names):
             # In a DNSBL (RFC 5782) owners are addresses on purpose, and the data is a code in the form of an address, 127.0.0.2.
             yield record, "W32", not (hosts and hosts[0].data[0].startswith("127.")), f"the owner is an address: {full}"
         for pointer in (sets.get("PTR") or ())[:1] if self.arpa and not self.cut(full) else ():
-            yield pointer, "W37", self.no_address(full), f"{full} stands for no address"
+            yield pointer, "W37", REVERSE.fullmatch(full) and not ADDRESS.fullmatch(full), f"{full} stands for no address"
         for host in itertools.chain(sets.get("A", ()), sets.get("AAAA", ())):
             if host.data and MAY_BE.match(host.data[0]) and not self.arpa and not self.policy and "localhost" not in full:
                 yield from self.host(host)
@@ -206,16 +179,6 @@ class Warnings(Names):
         hosts = [host.data[0] for sets in self.sets.values() for host in sets.get("A", ()) if host.data]
         return sum(host.startswith("127.") for host in hosts) * 2 > len(hosts)
 
-    @staticmethod
-    def no_address(full):
-        """Whether a name below in-addr.arpa or ip6.arpa can't belong to an address. Labels with other signs are delegations."""
-        labels, kind = full.split(".")[:-3], full.split(".")[-3]
-        if kind == "ip6":
-            return all(re.fullmatch(r"[\w*]", label) for label in labels) and "*" not in labels and (
-                len(labels) != 32 or not all(re.fullmatch("[0-9a-f]", label) for label in labels))
-        return kind == "in-addr" and all(label.isdigit() for label in labels) and (
-            len(labels) != 4 or any(int(label) > 255 for label in labels))
-
     def target(self, record):
         rtype, full, inside = record.rtype, record.data[-1], within(record.data[-1], self.zone)
         if rtype == "CNAME":
@@ -232,7 +195,7 @@ class Warnings(Names):
         if inside and ("A" in types or "AAAA" in types) and HOST.fullmatch(full) and not FOUR.match(full) \
                 and not full.endswith(self.dotless) and not (self.cuts and self.cut(full)):
             return  # a host with an address, as most targets are
-        cut, closest = self.cut(full), next(node for node in above(full) if node in self.nodes)
+        cut, source = self.cut(full), self.covering(full)
         # A server in the zone without an address is a fault (Z10), so there is no warning.
         if full == "." or rtype == "NS" and inside and not cut and not self.at(full, "A", "AAAA"):
             return
@@ -242,7 +205,7 @@ class Warnings(Names):
         host = rtype in ("NS", "MX", "SRV") or rtype == "PTR" and self.arpa
         server = rtype == "NS" and not self.at(full) and not (record.owner in self.cuts and within(full, record.owner))
         known = inside and not self.of.partial and full not in self.of.doubtful and self.of.named.isdisjoint(above(full))
-        types = self.sets.get(full if full == closest else "*." + closest.lstrip("."), {})
+        types = self.sets.get(source, {})
         yield from [row for row in (
             ("W32", four, f"the target is an address: {full}; write the name of a host"),
             ("W41", re.search("[/:]", full) and rtype != "PTR" and not full.endswith(".arpa."),
@@ -255,7 +218,7 @@ class Warnings(Names):
             ("W33", host and not HOST.fullmatch(full), f"the host {full} has an octet that host names do not have"),
             ("W43", known and cut and server,
              f"the server {full} is in the zone of {cut}, and has no address here: add its address"),
-            ("W42", known and not cut and full != closest and not types, f"the target {full} does not exist{do}"),
+            ("W42", known and not cut and full != source and not types, f"the target {full} does not exist{do}"),
             ("W43", known and not cut and (rtype in ("MX", "SRV") or "_" not in record.owner + full)
              and types.keys().isdisjoint(("A", "AAAA", "CNAME")), f"the target {full} has no address")) if row[1]][:1]
 
@@ -263,9 +226,11 @@ class Warnings(Names):
         (mname, rname), servers = record.data[:2], self.at(self.zone, "NS")
         refresh, retry, expire, minimum = map(int, record.data[3:])
         lost = servers and all(mname != server.data[0] for server in servers)
+        # DNS has a dot for the @ of a mailbox, and a backslash before each dot of the part before it (RFC 1035 8).
+        local, _, domain = rname.partition("\\@")
         return [] if record.owner != self.zone else [
             ("W02", lost, f"the first name, {mname}, is not one of the servers"),
-            ("W03", "\\@" in rname, f"the mailbox {rname} has @: write {mailbox(rname)}"),
+            ("W03", domain, "the mailbox %s has @: write %s.%s" % (rname, local.replace(".", "\\."), domain)),
             ("W31", twice(mname, self.zone), f"the name {mname}: is a final dot missing?"),
             ("W31", twice(rname, self.zone), f"the name {rname}: is a final dot missing?"),
             ("W04", retry >= refresh, f"the retry time {retry} is not less than the refresh time {refresh}"),
@@ -288,7 +253,7 @@ class Warnings(Names):
         hidden = re.match(r"[\s\"']+(v=(?:spf1|DMARC1|DKIM1)\b)", parts[0], re.I)
         rows = [("W56", True, says) for says in (spf_faults(whole) if spf else ())]
         return rows + [
-            ("W57", key and not is_base64(key[1]), "p= is not a key in base64"),
+            ("W57", key and not BASE64.fullmatch(re.sub(r"\s", "", key[1])), "p= is not a key in base64"),
             ("W57", bad, f"{bad[:1] and bad[0]}={bad and tags[bad[0]]} is not valid in a DMARC policy"),
             ("W54", hidden, f"the text begins with {whole[:1]!r} and not with {hidden and hidden[1]}, so it means nothing"),
             ("W54", not kind and re.match(r"(?i)(v=spf\d*|spf1)(?![\w.])", parts[0]), "an SPF text begins with v=spf1 and a space"),
