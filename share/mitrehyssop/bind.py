@@ -61,11 +61,7 @@ class Importer(Reader):
         at, nested = 0, True
         # A zone that exceeds one of these limits never passes, so the rest of it is not read.
         while at < len(lines) and self.size <= LARGEST and len(self.lines) < LINES and self.count < 101000:
-            if lines[at][:1] in ("", ";"):
-                at += 1
-                self.add(lines[at - 1:at], file + at)
-                continue
-            if self.is_plain(lines[at]):
+            if lines[at][:1] in ("", ";") or self.is_plain(lines[at]):
                 at += 1
                 self.add(lines[at - 1:at], file + at)
                 continue
@@ -139,7 +135,7 @@ class Importer(Reader):
         elif rtype in KINDS:
             tokens[at] = tokens[at] if rtype == entry.rtype else rtype
             for place, (kind, token) in enumerate(zip(KINDS[rtype], data), at + 1):
-                if kind == "6":
+                if kind == "6" and "." in token:
                     tokens[place] = groups(token) or token
                 elif kind in "HL" and (token.isdigit() or rtype == "SOA" and place > at + 3):
                     tokens[place] = digits(token) or token

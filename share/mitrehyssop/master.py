@@ -60,12 +60,11 @@ def digits(token):
 
 
 def groups(token):
-    """An IPv6 address with any dotted end written in hex digits. None if the token is not an IPv6 address."""
+    """An IPv6 address in the form of the canonical text, in hex digits alone. None if the token is not an IPv6 address."""
     try:
-        last = socket.inet_pton(socket.AF_INET6, token)[12:].hex()
+        return str(ipaddress.IPv6Address(socket.inet_pton(socket.AF_INET6, token)))
     except (OSError, ValueError):
         return None
-    return f"{token.rpartition(':')[0]}:{int(last[:4], 16):x}:{int(last[4:], 16):x}" if "." in token else token
 
 
 def address(token):
@@ -74,7 +73,7 @@ def address(token):
     if found := re.fullmatch(r"((?:\d{1,9}\.){3}\d{1,9})(?::\d+)?", bare):
         parts = [int(part) for part in found[1].split(".")]
         return ("A", ".".join(map(str, parts))) if max(parts) < 256 else None
-    return ("AAAA", groups(bare)) if groups(bare) else None
+    return ("AAAA", groups(bare) if "." in bare else bare) if groups(bare) else None
 
 
 def octets(token):
@@ -124,13 +123,11 @@ def name(text, origin):
         return origin
     if SIMPLE.fullmatch(text) and len(text) + size(origin) < 255:
         return text.lower() if text[-1] == "." else f"{text.lower()}.{origin.lstrip('.')}"
+    names = dns_name()
     try:
-        full = dns_name().from_text(text[:1021].encode("latin-1"), dns_name().from_text(origin))
-    except ModuleNotFoundError:
-        raise
+        return names.from_text(text[:1021].encode("latin-1"), names.from_text(origin)).canonicalize().to_text()
     except Exception:  # dnspython raises many kinds of exceptions.
         return None
-    return full.canonicalize().to_text()
 
 
 def above(full):
@@ -286,7 +283,7 @@ class Reader:
         tokens = data.split()
         last = tokens[-1]
         if rtype == "AAAA":
-            tokens[-1] = str(ipaddress.IPv6Address(last)) if groups(last) else last
+            tokens[-1] = groups(last) or last
         elif rtype != "A":
             tokens[-1] = name(last, self.origin) or last
         return Record(self.owner, ttl or self.default or self.stated, rtype, tokens, self.at - 1, last)
@@ -306,7 +303,7 @@ class Reader:
         # If the fields of the type are known, they are put into the form of the canonical text, unless they are faulty.
         kinds = KINDS.get(rtype, "") if data[:1] != ["\\#"] else ""
         data = [string(octets(token)) if kind == "s" else name(token, self.origin) or token if kind == "n" else
-                str(ipaddress.IPv6Address(token)) if kind == "6" and groups(token) else token
+                kind == "6" and groups(token) or token
                 for kind, token in zip(kinds * len(data) if kinds == "s" else kinds, data)] if kinds else data
         return Record(self.owner, ttl, rtype, data, entry.begin, tokens[-1]) if rtype else None
 
