@@ -95,9 +95,9 @@ def escaped(text, spared=" -~"):
     return text if sound else re.sub(f"[^{spared}]", lambda c: f"\\{ord(c[0]):03}", text)
 
 
-def string(text):
+def string(token):
     """A string in the form of the canonical text."""
-    return '"' + escaped(re.sub(r'(["\\])', r"\\\1", text)) + '"'
+    return '"' + escaped(re.sub(r'(["\\])', r"\\\1", octets(token))) + '"'
 
 
 @functools.cache
@@ -302,7 +302,7 @@ class Reader:
         ttl, rtype, data = entry.ttl or self.default or self.stated, NAMED.get(entry.rtype, entry.rtype), entry.data
         # If the fields of the type are known, they are put into the form of the canonical text, unless they are faulty.
         kinds = KINDS.get(rtype, "") if data[:1] != ["\\#"] else ""
-        data = [string(octets(token)) if kind == "s" else name(token, self.origin) or token if kind == "n" else
+        data = [string(token) if kind == "s" else name(token, self.origin) or token if kind == "n" else
                 kind == "6" and groups(token) or token
                 for kind, token in zip(kinds * len(data) if kinds == "s" else kinds, data)] if kinds else data
         return Record(self.owner, ttl, rtype, data, entry.begin, tokens[-1]) if rtype else None
