@@ -247,72 +247,62 @@ class Zone:
 
 
 class ZoneFaults(Names):
-    """The faults of a zone: for each fault that zonecheck reports, the records that cause it, and what to do.
-
-    A row is a record, a code, whether the record is a cause if its name has the fault of that code, and a sentence.
-    """
+    """The faults of a zone: for each fault that zonefaults reports, the records that cause it, and what to do."""
 
     def report(self, faults):
         self.soas = [record for record in self.of.records if record.rtype == "SOA"]
         self.hosts = {one.data[-1] for one in self.of.records if one.rtype in ("NS", "MX", "SRV") and one.data}
         for owner, code in faults:
             here = self.at(owner)
-            rows = self.origin(owner, here) if code in ("Z01", "Z04") else self.rows(owner, here)
-            found = [(record, says) for record, its, holds, says in rows if its == code and holds]
-            for record, says in found or [(next(iter(here), None), "the name has this fault")]:
+            says = self.origin(owner, here, code) if code in ("Z01", "Z04") else "the name has this fault"
+            for record, says in [*self.causes(owner, code)] or [(next(iter(here), None), says)]:
                 self.of.found(self.of.place(record.line if record else 0), code, says, owner)
             if len(self.of.faults) > MOST:
                 return
 
-    def origin(self, owner, here):
-        below, first = self.zone.lstrip("."), next(iter(here), None)
+    def origin(self, owner, here, code):
+        """The message for an origin without an SOA record, Z01, or without an NS record, Z04."""
+        below = self.zone.lstrip(".")
         server = next((record.data[0] for record in here if record.rtype in ("NS", "SOA")), "ns1." + below)
-        lost = ", with the address of the server" * (within(server, self.zone) and not self.at(server, "A", "AAAA"))
+        if code == "Z04":
+            lost = ", with the address of the server" * (within(server, self.zone) and not self.at(server, "A", "AAAA"))
+            return f"the origin has no NS record: add one for each server, as `{owner} 3600 IN NS {server}`{lost}"
         do = f": add `{owner} 3600 IN SOA {server} hostmaster.{below} 1 7200 900 1209600 300`"
         for soa in self.soas[:1]:
             do = "write @ as its owner, which lacks its final dot" if twice(soa.owner, self.zone) else \
                 f"give {soa.owner} as ORIGIN, if the file is of that zone"
             do = f"; {self.of.where([soa.line])} has the one of {soa.owner}: {do}"
-        yield first, "Z01", True, "the origin has no SOA record" + do
-        do = f"add one for each server, as `{owner} 3600 IN NS {server}`{lost}"
-        yield first, "Z04", True, f"the origin has no NS record: {do}"
+        return "the origin has no SOA record" + do
 
-    def rows(self, owner, here):
-        aliases, others = self.at(owner, "CNAME"), [record for record in here if record.rtype != "CNAME"]
-        cut, spread = self.cut(owner) or owner, "are served; spread them over several names"
-        servers = self.of.where(server.line for server in self.at(cut, "NS"))
-        own_zone = f"take it out (it belongs in the zone {cut}), or take out the NS records of {cut} on {servers}"
-        both = "a CNAME and other records at one name: " + (
-            "take the CNAME out, and write the A and AAAA records of its target" if owner == self.zone else
-            "keep it or the other, on ")
-        give = f"give {owner} as ORIGIN, if the file is of that zone"
-        moved = "its owner lacks the final dot: write @" if twice(owner, self.zone) else \
-            "take it out" if self.at(self.zone, "SOA") else \
-            "write @ as its owner, or " * within(owner, self.zone) + give
-        for number, (rtype, own) in enumerate(self.sets[owner].items()):
+    def causes(self, owner, code):
+        """The records that cause a fault of a name, each with its message."""
+        from remedies import ZONE  # Most zones need none.
+        cut, sets = self.cut(owner) or owner, self.sets[owner]
+        for number, (rtype, own) in enumerate(sets.items()):
             first, alone = {record.ttl: record for record in reversed(own)}, unique(own)
             more = [record for record in own[MOST:] if record in (first[record.ttl], *alone[64:65])]
             for record in own[:MOST] + more:
-                def but(records):
-                    return self.of.where(other.line for other in records if other.line != record.line)
-                yield record, "Z02", rtype == "SOA", f"more than one SOA record; see {but(own)}: keep one"
-                yield record, "Z03", rtype == "SOA", f"an SOA record that is not at the origin: {moved}"
-                yield record, "Z05", True, f"the name is not in the zone {self.zone}; {self.outside(owner, rtype)}"
-                yield record, "Z06", rtype == "CNAME", both + but(others) * (owner != self.zone)
-                yield record, "Z06", rtype != "CNAME" and owner != self.zone, \
-                    f"other records at the name of a CNAME: keep it or the CNAME, on {but(aliases)}"
-                yield record, "Z07", rtype == "CNAME", f"more than one CNAME at one name; see {but(own)}: keep one"
-                yield record, "Z08", len(first) > 1 and record is first[record.ttl], \
-                    f"the TTL of this {rtype} record is {record.ttl}, unlike on {but(first.values())}: " \
-                    f"give all {rtype} records of the name the TTL {own[0].ttl}"
-                yield record, "Z12", rtype not in ("A", "AAAA") and (rtype != "NS" or owner != cut), \
-                    f"data at or below a delegation, where it is never served: {own_zone}"
-                yield record, "Z13", rtype == "NS", "NS at a wildcard: take it out, and delegate each name by itself"
-                yield record, "Z14", record in alone[64:65], \
-                    f"{len(alone)} {rtype} records at one name: at most 64 {spread}"
-                yield record, "Z15", (number, record) == (32, own[0]), \
-                    f"{len(self.sets[owner])} types at one name: at most 32 {spread}"
-                yield from self.target(owner, record) if rtype in ("NS", "MX", "SRV") else ()
+                is_cause = {
+                    "Z02": rtype == "SOA", "Z03": rtype == "SOA", "Z05": True, "Z06": rtype == "CNAME" or owner != self.zone,
+                    "Z07": rtype == "CNAME", "Z08": len(first) > 1 and record is first[record.ttl],
+                    "Z12": rtype not in ("A", "AAAA") and (rtype != "NS" or owner != cut), "Z13": rtype == "NS",
+                    "Z14": record in alone[64:65], "Z15": (number, record) == (32, own[0])}
+                if code in ("Z09", "Z10", "Z11"):
+                    yield from self.target(owner, record, code) if rtype in ("NS", "MX", "SRV") else ()
+                elif is_cause.get(code):
+                    see = {"Z06": [one for one in self.at(owner) if (one.rtype == "CNAME") != (rtype == "CNAME")],
+                           "Z08": first.values(), "Z12": self.at(cut, "NS")}.get(code, own)
+                    at = " CNAME" * (rtype == "CNAME") + " at the origin" * (owner == self.zone) if code == "Z06" else ""
+                    do = self.moved(owner) if code == "Z03" else self.outside(owner, rtype) if code == "Z05" else ""
+                    yield record, ZONE[code + at].format(
+                        record=record, own=own, alone=len(alone), types=len(sets), cut=cut, zone=self.zone, do=do,
+                        lines=self.of.where(one.line for one in see if one.line != record.line))
+
+    def moved(self, owner):
+        if twice(owner, self.zone):
+            return "its owner lacks the final dot: write @"
+        give = f"give {owner} as ORIGIN, if the file is of that zone"
+        return "take it out" if self.at(self.zone, "SOA") else "write @ as its owner, or " * within(owner, self.zone) + give
 
     def outside(self, owner, rtype):
         soa = next((soa.owner for soa in self.soas if not within(soa.owner, self.zone)), None)
@@ -324,11 +314,13 @@ class ZoneFaults(Names):
             return f"write {owner[:-1]} without the final dot, or take the record out"
         return "take the record out, or put it into the file of its own zone"
 
-    def target(self, owner, record):
+    def target(self, owner, record, code):
         target, rtype, written, found = record.data[-1], record.rtype, record.last, address(record.last)
         end, aliases = self.aliased(target) if within(target, self.zone) else (target, [])
-        yield record, "Z09", rtype == "NS" and aliases, f"the server {target} is an alias: write {end}"
-        yield record, "Z11", rtype != "NS" and aliases, f"an {rtype} host that is an alias: {target}: write {end}"
+        if code == "Z09" and rtype == "NS" and aliases:
+            yield record, f"the server {target} is an alias: write {end}"
+        if code == "Z11" and rtype != "NS" and aliases:
+            yield record, f"an {rtype} host that is an alias: {target}: write {end}"
         do = f"add `{target} 3600 IN A` with its address, or take the NS record out"
         if found:
             do = f"{found[1]} is an address: write a name, as `NS ns9`, and for that name `ns9 {found[0]} {found[1]}`"
@@ -340,5 +332,5 @@ class ZoneFaults(Names):
             do = f"write {written}. if it is in another zone; else {do}"
         below = self.cut(target) and not (owner in self.cuts and within(target, owner))
         lost = within(target, self.zone) and not below and not self.at(target, "A", "AAAA")
-        yield record, "Z10", rtype == "NS" and lost, \
-            f"a server in the zone without an address: {target}: {do}"
+        if code == "Z10" and rtype == "NS" and lost:
+            yield record, f"a server in the zone without an address: {target}: {do}"

@@ -11,7 +11,7 @@ from master import (BEGIN, FORMS, KINDS, NAMED, NUMBERS, OTHERS, PIECE, Entry, R
 
 with open(Path(__file__).with_suffix(".toml"), "rb") as tables:
     TEXTS = tomllib.load(tables)
-TAKES, OWNERS, TABLES = TEXTS["takes"], TEXTS["owners"], TEXTS["tables"]
+TAKES, OWNERS, ZONE, TABLES = TEXTS["takes"], TEXTS["owners"], TEXTS["zone"], TEXTS["tables"]
 LARGEST = {"H": 65535, "L": 4294967295, "T": 2147483647}
 # The types that a misspelled type may mean.
 COMMON = [*KINDS, *"CAA TLSA SSHFP NAPTR HTTPS SVCB URI LOC RP CERT DS CDS DNSKEY CDNSKEY SMIMEA".split()]
