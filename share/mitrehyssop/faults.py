@@ -78,14 +78,14 @@ def imported(origin, text, path, folder, lints=False, reads=read):
     if text.startswith(("\0\0\0", *FORMS)):
         return Zone(origin, text, path)
     if lints and "$" not in text.replace("$TTL", "").replace("$ORIGIN", ""):
-        zone = Zone(origin, text, path, lints=True)
+        zone = Zone(origin, text, path)
         if zone.passes_at_once():
             return zone
     near = "" if path.startswith("/dev/") else os.path.dirname(path)
     importer = bind.Importer(absolute(origin), folder or near or ".", lints, maps=bool(folder), reads=reads)
     importer.read(text.removeprefix(BOM), path)
     refuse(len(importer.lines) >= LINES, f"{path}: with the files that it includes, it has more than {LINES:,} lines")
-    zone = Zone(origin, "\n".join(importer.lines), path, importer, lints)
+    zone = Zone(origin, "\n".join(importer.lines), path, importer)
     if text.startswith(BOM):
         zone.faults.append(Fault((path, 1), "R01", "", "the file begins with a byte order mark, which BIND refuses: take it out"))
     return zone
@@ -94,18 +94,19 @@ def imported(origin, text, path, folder, lints=False, reads=read):
 class Zone:
     """A zone file, and all that is found about it.
 
-    `lines` are its lines. `places` are as in an importer, if one made the lines; else empty. `notes` has the importer's message for
-    each line that it could not convert. `doubtful` has for each name the types of its faulty entries. `partial` means that
+    `lines` are its lines. `places` are as in an importer, if one made the lines; else empty. `notes` has the importer's
+    message for each line that it could not convert. `doubtful` has for each name the types of its faulty entries. `partial` means that
     included lines are unknown. `sources` has the text of each file. `more` means that there may be unreported faults. `fixes` has
     the remedies that are sure: a file, a line, the columns of what is replaced, and a text.
     """
 
-    def __init__(self, origin, text, path, importer=None, lints=False):
+    def __init__(self, origin, text, path, importer=None):
         self.origin, self.path, self.text, self.zone = origin, path, text, absolute(origin)
         made = importer or bind.Importer(self.zone, ".")
-        self.places, self.notes, self.passed, self.named, self.partial = made.places, made.notes, made.passed, made.named, made.lost
+        self.places, self.notes, self.partial = made.places, made.notes, made.lost
+        self.passed, self.named = made.passed, made.named
         self.lines = made.lines or (text.split("\n") if text.startswith((*FORMS,)) else split(text, path))
-        self.sources, self.lints, self.notes_found, self.fixes = made.sources or {path: text}, lints, [], set()
+        self.sources, self.lints, self.notes_found, self.fixes = made.sources or {path: text}, made.lints, [], set()
         self.faults, self.records, self.passes, self.more, self.doubtful = [], [], False, False, collections.defaultdict(set)
         self.seen, self.mended, self.split = {}, set(), {}
 
@@ -283,8 +284,8 @@ class ZoneFaults(Names):
             more = [record for record in own[MOST:] if record in (first[record.ttl], *alone[64:65])]
             for record in own[:MOST] + more:
                 is_cause = {
-                    "Z02": rtype == "SOA", "Z03": rtype == "SOA", "Z05": True, "Z06": rtype == "CNAME" or owner != self.zone,
-                    "Z07": rtype == "CNAME", "Z08": len(first) > 1 and record is first[record.ttl],
+                    "Z02": rtype == "SOA", "Z03": rtype == "SOA", "Z05": True, "Z07": rtype == "CNAME",
+                    "Z06": rtype == "CNAME" or owner != self.zone, "Z08": len(first) > 1 and record is first[record.ttl],
                     "Z12": rtype not in ("A", "AAAA") and (rtype != "NS" or owner != cut), "Z13": rtype == "NS",
                     "Z14": record in alone[64:65], "Z15": (number, record) == (32, own[0])}
                 if code in ("Z09", "Z10", "Z11"):
@@ -292,17 +293,18 @@ class ZoneFaults(Names):
                 elif is_cause.get(code):
                     see = {"Z06": [one for one in self.at(owner) if (one.rtype == "CNAME") != (rtype == "CNAME")],
                            "Z08": first.values(), "Z12": self.at(cut, "NS")}.get(code, own)
-                    at = " CNAME" * (rtype == "CNAME") + " at the origin" * (owner == self.zone) if code == "Z06" else ""
+                    kind = " CNAME" * (rtype == "CNAME") + " at the origin" * (owner == self.zone)
                     do = self.moved(owner) if code == "Z03" else self.outside(owner, rtype) if code == "Z05" else ""
-                    yield record, ZONE[code + at].format(
+                    yield record, ZONE[code + kind * (code == "Z06")].format(
                         record=record, own=own, alone=len(alone), types=len(sets), cut=cut, zone=self.zone, do=do,
                         lines=self.of.where(one.line for one in see if one.line != record.line))
 
     def moved(self, owner):
         if twice(owner, self.zone):
             return "its owner lacks the final dot: write @"
-        give = f"give {owner} as ORIGIN, if the file is of that zone"
-        return "take it out" if self.at(self.zone, "SOA") else "write @ as its owner, or " * within(owner, self.zone) + give
+        if self.at(self.zone, "SOA"):
+            return "take it out"
+        return "write @ as its owner, or " * within(owner, self.zone) + f"give {owner} as ORIGIN, if the file is of that zone"
 
     def outside(self, owner, rtype):
         soa = next((soa.owner for soa in self.soas if not within(soa.owner, self.zone)), None)

@@ -9,7 +9,8 @@ from pathlib import Path
 from faults import Fault
 from master import Entry
 
-# For each server, the code of its complaints, its name, its checker, and a pattern of the lines in which that names a line of the file.
+# For each server: the code of its complaints, its name, its checker, and a pattern of the messages of the checker that
+# name a line of the file.
 SERVERS = {"bind": ("B01", "BIND", ["named-checkzone", "-i", "local", "-k", "ignore"], r":(\d+): (.*)"),
            "nsd": ("D01", "NSD", ["nsd-checkzone"], r":(\d+): (?:(?:error|warning): )?(.*)"),
            "knot": ("K01", "Knot", ["kzonecheck", "-o"], r"(?:line |:)(\d+)[:, ]+(.*)")}

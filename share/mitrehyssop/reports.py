@@ -73,11 +73,7 @@ def dump(value):
 # The escapes that GitHub needs in a file name. In a message only % has to be escaped, since no message has a CR or LF.
 GITHUB = {ord(c): f"%{ord(c):02X}" for c in "%\r\n:,"}
 XML = str.maketrans({"&": "&amp;", "<": "&lt;", ">": "&gt;", '"': "&quot;"})
-NAMES = {"github": {"note": "notice"}, "gitlab": {"error": "major", "warning": "minor", "note": "info"}, "checkstyle": {"note": "info"}}
-
-
-def named(form, one):
-    return NAMES[form].get(one.severity, one.severity)
+GITLAB = {"error": "major", "warning": "minor", "note": "info"}
 
 
 def span(one, *keys):
@@ -115,18 +111,18 @@ FORMATS = {
     "text": lambda found, _: "".join(map(str, found)),
     "json": lambda found, _: dump([{**one._asdict(), "file": text_of(one.file)} for one in found]),
     "github": lambda found, _: "".join(
-        f"::{named('github', one)} file={plain(one.file.translate(GITHUB))},"
+        f"::{one.severity.replace('note', 'notice')} file={plain(one.file.translate(GITHUB))},"
         + "".join(f"{key}={value}," for key, value in span(one, "line", "col", "endLine", "endColumn").items()) + f"title={one.code}::"
         + one.said().replace("%", "%25") + "\n" for one in found),
     "gitlab": lambda found, _: dump([
         {"description": f"{one.code}: {one.said()}", "check_name": one.code, "fingerprint": print_of,
-         "severity": named("gitlab", one), "location": {"path": text_of(one.file), **positions(one)}}
+         "severity": GITLAB[one.severity], "location": {"path": text_of(one.file), **positions(one)}}
         for one, print_of in zip(found, fingerprints(found))]),
     "sarif": sarif,
     "checkstyle": lambda found, _: '<?xml version="1.0" encoding="UTF-8"?>\n<checkstyle version="4.3">\n' + "".join(
         f'<file name="{plain(file).translate(XML)}">\n' + "".join(
             "<error " + "".join(f'{key}="{value}" ' for key, value in span(one, "line", "column").items())
-            + f'severity="{named("checkstyle", one)}" source="zonelint.{one.code}" '
+            + f'severity="{one.severity.replace("note", "info")}" source="zonelint.{one.code}" '
             f'message="{f"{one.code}: {one.said()}".translate(XML)}"/>\n' for one in reports) + "</file>\n"
         for file, reports in itertools.groupby(found, lambda one: one.file)) + "</checkstyle>\n",
 }

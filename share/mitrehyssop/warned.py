@@ -10,7 +10,8 @@ from master import Names, above, address, octets, twice, unique, within
 
 HOST = re.compile(r"(?:\*\.)?(?:[a-z0-9](?:[a-z0-9-]*[a-z0-9])?\.)+|(?:.*\.)?gc\._msdcs\..*")
 FOUR = re.compile(r"\d+\.\d+\.\d+\.\d+\.")
-# The names for addresses, as far as their labels have no other signs, which those of delegations have; and those of whole addresses.
+# Names below in-addr.arpa and ip6.arpa, except those whose labels have other signs, as for delegations; and names of
+# addresses.
 REVERSE = re.compile(r"(?:\w\.)*ip6\.arpa\.|(?:\d+\.)*in-addr\.arpa\.")
 ADDRESS = re.compile(r"(?:[0-9a-f]\.){32}ip6\.arpa\.|(?:0*(?:25[0-5]|2[0-4]\d|1?\d?\d)\.){4}in-addr\.arpa\.")
 # An instance of a service (RFC 6763 4.1) may have a label before it.
@@ -93,7 +94,8 @@ class Warnings(Names):
 
     def __init__(self, zone):
         super().__init__(zone, zone.records if zone.passes else unique(zone.records))
-        self.arpa, self.ends = self.zone.endswith("arpa."), tuple(end + self.zone for end in (".com.", ".org.", ".arpa."))
+        self.arpa = self.zone.endswith("arpa.")
+        self.ends = tuple(end + self.zone for end in (".com.", ".org.", ".arpa."))
         last = self.zone.split(".")[-2:-1]
         self.again = f".{self.zone}{last[0]}." if last and last[0] else "\0"
         self.dotless = (self.again, "." + self.zone + self.zone) if self.zone != "." else "\0"
@@ -150,7 +152,8 @@ class Warnings(Names):
             # In a DNSBL (RFC 5782) owners are addresses on purpose, and the data is a code in the form of an address, 127.0.0.2.
             yield record, "W32", not (hosts and hosts[0].data[0].startswith("127.")), f"the owner is an address: {full}"
         for pointer in (sets.get("PTR") or ())[:1] if self.arpa and not self.cut(full) else ():
-            yield pointer, "W37", REVERSE.fullmatch(full) and not ADDRESS.fullmatch(full), f"{full} stands for no address"
+            wrong = REVERSE.fullmatch(full) and not ADDRESS.fullmatch(full)
+            yield pointer, "W37", wrong, f"{full} stands for no address"
         for host in itertools.chain(sets.get("A", ()), sets.get("AAAA", ())):
             if host.data and MAY_BE.match(host.data[0]) and not self.arpa and not self.policy and "localhost" not in full:
                 yield from self.host(host)
@@ -231,11 +234,9 @@ class Warnings(Names):
         return [] if record.owner != self.zone else [
             ("W02", lost, f"the first name, {mname}, is not one of the servers"),
             ("W03", domain, "the mailbox %s has @: write %s.%s" % (rname, local.replace(".", "\\."), domain)),
-            ("W31", twice(mname, self.zone), f"the name {mname}: is a final dot missing?"),
-            ("W31", twice(rname, self.zone), f"the name {rname}: is a final dot missing?"),
+            *(("W31", twice(full, self.zone), f"the name {full}: is a final dot missing?") for full in (mname, rname)),
             ("W04", retry >= refresh, f"the retry time {retry} is not less than the refresh time {refresh}"),
-            ("W04", expire < refresh + retry,
-             f"the expire time {expire} is less than the refresh and retry times together"),
+            ("W04", expire < refresh + retry, f"the expire time {expire} is less than the refresh and retry times together"),
             ("W04", minimum > 86400, f"by the last number, {minimum}, resolvers may miss a new name for more than a day")]
 
     def text(self, record):

@@ -9,6 +9,8 @@ ZONE_FILE = re.compile(r"(?:db|pri|master)\..+|.+\.(?:zone|db|hosts|dns)(?:\.sig
 ORIGIN = re.compile(r"^\$ORIGIN[ \t]+(\S+\.)[ \t]*(?:;.*)?\r?$", re.I | re.M)
 SOA = re.compile(r"^(\S+\.)[ \t]+(?:\d\w*[ \t]+|IN[ \t]+){0,2}SOA[ \t]", re.I | re.M)
 TOKEN = re.compile(r"/\*.*?\*/|//[^\n]*|#[^\n]*|\"([^\"]*)\"|([{};]|[^\s{};\"]+)", re.S)
+PAIR = re.compile(r"^\s*(?:-\s+)?(zonesdir|storage|name|domain|zonefile|file)[ \t]*:[ \t]*\"?([^\"#\n]+?)\"?\s*(?:#.*)?$",
+                  re.M)
 
 
 def origin_of(text):
@@ -58,11 +60,7 @@ def in_named(text, path):
 def in_pairs(text, path):
     """The zones of an nsd.conf or a knot.conf, each with its file."""
     folder, origin = os.path.dirname(path), None
-    for line in text.splitlines():
-        found = re.match(r"\s*(?:-\s+)?(zonesdir|storage|name|domain|zonefile|file)\s*:\s*\"?([^\"#]+?)\"?\s*(?:#.*)?$", line)
-        if not found:
-            continue
-        key, value = found.groups()
+    for key, value in PAIR.findall(text):
         if key in ("zonesdir", "storage"):
             folder = value
         elif key in ("name", "domain"):
