@@ -110,18 +110,12 @@ def dns_name():
     return dns.name
 
 
-@functools.lru_cache
-def size(full):
-    """How many octets an absolute name has on the wire."""
-    return len(dns_name().from_text(full).to_wire()) if "\\" in full else len(full) + (full != ".")
-
-
 @functools.lru_cache(1 << 17)
 def name(text, origin):
     """The absolute name, in the form of the canonical text, of a name relative to an origin. None if it is invalid."""
     if text == "@":
         return origin
-    if SIMPLE.fullmatch(text) and len(text) + size(origin) < 255:
+    if SIMPLE.fullmatch(text) and len(text) + len(origin) < 254:
         return text.lower() if text[-1] == "." else f"{text.lower()}.{origin.lstrip('.')}"
     names = dns_name()
     try:
@@ -281,12 +275,16 @@ class Reader:
         self.owner = owner and name(owner, self.origin) or self.owner
         self.stated, self.at, self.pieces = ttl or self.stated, self.at + 1, self.pieces + 8
         tokens = data.split()
-        last = tokens[-1]
-        if rtype == "AAAA":
-            tokens[-1] = groups(last) or last
-        elif rtype != "A":
-            tokens[-1] = name(last, self.origin) or last
-        return Record(self.owner, ttl or self.default or self.stated, rtype, tokens, self.at - 1, last)
+        return Record(self.owner, ttl or self.default or self.stated, rtype, self.fields(rtype, tokens), self.at - 1, tokens[-1])
+
+    def fields(self, rtype, tokens):
+        """Data in the form of the canonical text. Fields that are faulty, or of other types, stay as they are."""
+        kinds = KINDS.get(rtype, "")
+        if not kinds or tokens[:1] == ["\\#"]:
+            return tokens
+        return [string(token) if kind == "s" else name(token, self.origin) or token if kind == "n" else
+                kind == "6" and groups(token) or token
+                for kind, token in zip(kinds * len(tokens) if kinds == "s" else kinds, tokens)]
 
     def take(self, entry):
         """The record of an entry, or None if the entry is not a record."""
@@ -299,13 +297,8 @@ class Reader:
             return None
         self.owner = owner and name(unquoted(owner), self.origin) or self.owner
         self.stated = entry.ttl or self.stated
-        ttl, rtype, data = entry.ttl or self.default or self.stated, NAMED.get(entry.rtype, entry.rtype), entry.data
-        # If the fields of the type are known, they are put into the form of the canonical text, unless they are faulty.
-        kinds = KINDS.get(rtype, "") if data[:1] != ["\\#"] else ""
-        data = [string(token) if kind == "s" else name(token, self.origin) or token if kind == "n" else
-                kind == "6" and groups(token) or token
-                for kind, token in zip(kinds * len(data) if kinds == "s" else kinds, data)] if kinds else data
-        return Record(self.owner, ttl, rtype, data, entry.begin, tokens[-1]) if rtype else None
+        ttl, rtype = entry.ttl or self.default or self.stated, NAMED.get(entry.rtype, entry.rtype)
+        return Record(self.owner, ttl, rtype, self.fields(rtype, entry.data), entry.begin, tokens[-1]) if rtype else None
 
 
 def unique(records):
