@@ -41,10 +41,6 @@ def is_expression(text):
                 or any(int(number) > groups or number == "0" for number in re.findall(r"\\(\d)", parts[2])))
 
 
-class Unread(Exception):
-    """No program here reads the type."""
-
-
 def field(kind, token, origin):
     """The octets of a field."""
     refuse(not re.fullmatch(FORMS.get(kind, ".*"), token, re.S) or not ESCAPES.fullmatch(token), f"{token} is not allowed there")
@@ -74,12 +70,13 @@ def service(text):
 
 
 def by_dnspython(rtype, entry, origin):
-    """The octets of the data of an entry. Raises `Unread` if this version of dnspython does not read the type."""
+    """The octets of the data of an entry. Raises NotImplementedError if this dnspython does not read the type."""
     import dns.rdata  # This import takes longer than all others together, and most zones don't need it.
     import dns.version
     number, tokens, alias = dns.rdatatype.from_text(NUMBERS.get(rtype, rtype)), entry.data[:], False
     if dns.rdata.get_rdata_class(1, number) is dns.rdata.GenericRdata:
-        raise Unread(f"dnspython {dns.version.version} does not read {rtype}: write \\#, a length and hex digits, or use a later one")
+        raise NotImplementedError(f"dnspython {dns.version.version} does not read {rtype}: "
+                                  "write \\#, a length and hex digits, or use a later one")
     given = "".join(tokens[BASE64.get(rtype, slice(0, 0))])
     refuse(base64.b64encode(base64.b64decode(given)).decode() != given, f"{given[:60]} is not base64")
     if rtype in ("CERT", "CDNSKEY", "CDS"):
@@ -114,7 +111,7 @@ def generic(entry, rtype, origin):
             refuse(not is_expression(octets(entry.data[4])), f"{entry.data[4]} is not an expression that BIND reads")
         size = FINGERPRINTS.get(data[1]) if rtype == "SSHFP" and len(data) > 2 else None
         refuse(size and len(data) != size + 2, f"such a fingerprint has {size} octets, and not {len(data) - 2}")
-    except Unread as error:
+    except NotImplementedError as error:
         return None, str(error)
     except Exception as error:  # dnspython raises many kinds of exceptions.
         return None, f"the data is invalid for {rtype}: {error or type(error).__name__}"

@@ -38,23 +38,20 @@ def settings_in(folder):
     return settings_in(above) if above != folder else ({}, path)
 
 
-class Rules:
-    """The rules for one zone file."""
+def severities(options, zone, path):
+    """The function that says how a code is reported for a zone file: None if it is not."""
+    settings, file = settings_in(os.path.dirname(os.path.realpath(path))) if path != "-" else ({}, "")
+    own = settings.get("zones", {}).get(zone.strip("."), {}) if isinstance(settings.get("zones", {}), dict) else None
+    refuse(not isinstance(own, dict) or set(settings) - {*KEYS, "zones"} or set(own) - {*KEYS},
+           f"{file}: it has select, ignore, error, and tables zones.\"NAME\" with these")
+    select, ignore, error = (codes_of(settings.get(key, []), file) + codes_of(own.get(key, []), file)
+                             + sum((codes_of(text, f"--{key}") for text in getattr(options, key)), ()) for key in KEYS)
 
-    def __init__(self, options, zone, path):
-        settings, file = settings_in(os.path.dirname(os.path.realpath(path))) if path != "-" else ({}, "")
-        own = settings.get("zones", {}).get(zone.strip("."), {}) if isinstance(settings.get("zones", {}), dict) else None
-        refuse(not isinstance(own, dict) or set(settings) - {*KEYS, "zones"} or set(own) - {*KEYS},
-               f"{file}: it has select, ignore, error, and tables zones.\"NAME\" with these")
-        lists = {key: codes_of(settings.get(key, []), file) + codes_of(own.get(key, []), file)
-                 + sum((codes_of(text, f"--{key}") for text in getattr(options, key)), ()) for key in KEYS}
-        self.select, self.ignore, self.error = (lists[key] for key in KEYS)
-
-    def severity(self, code):
-        """How a code is reported: None if it is not."""
-        if code.startswith(self.ignore) or self.select and not code.startswith((*self.select, "R")):
+    def severity(code):
+        if code.startswith(ignore) or select and not code.startswith((*select, "R")):
             return None
-        return "error" if code.startswith((*self.error, *ERRORS)) else LEVELS.get(code[0], "error")
+        return "error" if code.startswith((*error, *ERRORS)) else LEVELS.get(code[0], "error")
+    return severity
 
 
 def without_ignored(found, sources):
