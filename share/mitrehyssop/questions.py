@@ -24,9 +24,7 @@ def every(zone, all_types):
     def missing(full):
         below = f"zz-none.{full.lstrip('.')}"
         return missing(below) if below in names.nodes else below
-    for full in names.nodes:
-        if not within(full, names.zone):
-            continue
+    for full in [full for full in names.nodes if within(full, names.zone)]:
         own = names.sets.get(full, {})
         kind = "referral" if names.cut(full) else "alias" if "CNAME" in own else None
         lacked = next(rtype for rtype in LACKED if rtype not in own)

@@ -43,8 +43,8 @@ class Report(collections.namedtuple("Report", "file line column end_line end_col
 
 
 @functools.cache
-def explained(code=None):
-    """What CODES.md says of a code: the cells of its row in a table, each after its heading. Without a code, a dictionary of all."""
+def explained(code):
+    """What CODES.md says of a code: the cells of its row in a table, each after its heading."""
     rows, heads = {}, []
     places = [SHARE / "CODES.md", SHARE.parents[1] / "docs" / "CODES.md"]
     for line in next((place for place in places if place.exists()), Path(os.devnull)).read_text(encoding="utf-8").splitlines():
@@ -52,7 +52,7 @@ def explained(code=None):
         heads = cells if cells[:1] == ["Code"] else heads
         if cells and (found := re.fullmatch(r"`([A-Z]\d\d)`", cells[0])):
             rows[found[1]] = dict(zip(heads[1:], cells[1:]))
-    return rows.get(code, {}) if code else rows
+    return rows.get(code, {})
 
 
 def fingerprints(found):

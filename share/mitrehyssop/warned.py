@@ -156,7 +156,10 @@ class Warnings(Names):
             yield pointer, "W37", wrong, f"{full} stands for no address"
         for host in itertools.chain(sets.get("A", ()), sets.get("AAAA", ())):
             if host.data and MAY_BE.match(host.data[0]) and not self.arpa and not self.policy and "localhost" not in full:
-                yield from self.host(host)
+                found = address(host.data[0])
+                net = found and next((net for net in UNUSABLE if ipaddress.ip_address(found[1]) in net), None)
+                yield host, "W48", net and not host.data[0].startswith("127.0.0.") * self.codes, \
+                    f"nobody can reach {host.data[0]} from elsewhere: it is in {net}"
         for srv in sets.get("SRV", ())[:1]:
             yield srv, "W36", not SERVICE.match(full), "the owner of SRV is not of the form _service._protocol"
             over = next((label for label in full.split(".")[1:3] if label[:1] == "_"), "_tcp")
@@ -169,12 +172,6 @@ class Warnings(Names):
             if self.cuts and (cut := self.cut(full)):
                 yield host, "W47", full not in self.glue, \
                     f"an address at or below the delegation of {cut}, at a name that no NS record names: it is never served"
-
-    def host(self, record):
-        found = address(record.data[0])
-        net = found and next((net for net in UNUSABLE if ipaddress.ip_address(found[1]) in net), None)
-        yield record, "W48", net and not record.data[0].startswith("127.0.0.") * self.codes, \
-            f"nobody can reach {record.data[0]} from elsewhere: it is in {net}"
 
     @functools.cached_property
     def codes(self):
