@@ -426,8 +426,10 @@ def test_how_fast_and_how_many_at_once(programs):
 
 def test_an_interrupt(programs):
     """What was found so far is printed."""
+    # A shell ignores interrupts in what it runs in the background.
+    signal.signal(signal.SIGINT, signal.default_int_handler)
     server = Small(ZONE, capped)
-    words = [COMPARE, "--rate", "8", "example", "-", server.address]
+    words = [COMPARE, "--rate", "20", "example", "-", server.address]
     with subprocess.Popen(words, stdin=subprocess.PIPE, stdout=subprocess.PIPE, stderr=subprocess.PIPE) as run:
         run.stdin.write(ZONE.encode())
         run.stdin.close()
