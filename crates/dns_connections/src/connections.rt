@@ -88,7 +88,7 @@ pub enum Places {
 /// However the sockets report what they found, and however input is cut: each connection that was
 /// accepted is closed, and what was sent on it is a prefix of the replies to the messages received
 /// on it, in order. If its input has ended, it is all of them.
-// Out of line: it has some 400 KB on the stack, which no other service needs.
+// Out of line: it has 0.4 to 0.5 MB on the stack, which no other service needs.
 #[inline(never)]
 pub fn serve_connections<K, E, B>(
     alloc: Global,

@@ -6,11 +6,6 @@ use Rattle.dns_master.proofs.KnowsSteps.{counts_as_record, counted, length-count
 use Rattle.dns_master.specs.EarlierForm.{SeenTtl, LooksBack, Passed, OriginAfter, StatedOwner}
 use Rattle.dns_master.specs.declared.earlier.Earlier.{Earlier}
 
-pub seen-or : (v w : Option Word) (x y : Option (Option ℕ))
-    → SeenTtl v x → SeenTtl w y → SeenTtl (option_or v w) (option_or x y)
-seen-or None w x y h k = rw h k
-seen-or (Some v) w x y h k = (h.0, ap (λ z. option_or z y) h.1, h.2)
-
 module _ (o : DomainName) (earlier : List Entry) where
   abbrev OwnerAfter : EntryKind → DomainName → Type 0
   OwnerAfter s n = MatchOption (owner_word s) (OwnerBefore o earlier n) (λ w. NameIs o earlier w n)
@@ -135,21 +130,6 @@ module _ (o : DomainName) (earlier : List Entry) where
               (sym same_stated) known.stated_is;
           count_is = same_count ∙ known.count_is;
         })
-
-    -- `$ORIGIN` without a name
-    pub origin-kept : (w : Word) (ws : List Word)
-        → kind_of e ≡ directive (codes "$origin") (w ∷ ws)
-        → Nothing (SpellsName old.origin w.raw) → Passed o earlier e old
-    origin-kept w ws is none =
-        record {
-          later = earlier;
-          back = inr (
-            subst (λ s. Nothing (OriginAfter o earlier s)) (sym is)
-                (λ n h. none n (subst (λ m. SpellsName m w.raw n) (known.no_other h.0 h.1) h.2)),
-            refl,
-          );
-          known = known;
-        }
 
     pub default-passed : (new : Earlier) (w : Word) (ws : List Word)
         → kind_of e ≡ directive (codes "$ttl") (w ∷ ws)

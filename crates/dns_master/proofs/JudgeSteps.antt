@@ -99,12 +99,6 @@ fields-few (w ∷ v ∷ ws) =
     go false true c false = omega arith
     go false false c t = omega arith
 
--- the TTL in force
-pub in_force-stated : (earlier : List Entry) (w : Word) (v : Option ℕ)
-    → ((n : ℕ) → (v ≡ Some n → TtlSays w n) × (TtlSays w n → v ≡ Some n))
-    → SeenTtl (ttl_in_force earlier (Some w)) (Some v)
-in_force-stated earlier w v h = (v, refl, h)
-
 none_seen : (w : Option Word) (x : Option (Option ℕ)) → SeenTtl w x → x ≡ None
     → is_none w ≡ true
 none_seen None x h e = refl
@@ -136,9 +130,6 @@ seen_invalid (Some w) x n h e k =
 module _ (o : DomainName) (earlier : List Entry) (owner : DomainName) (f : Fields) where
   named : Nothing (λ (n : DomainName). n ≡ owner) → ⊥
   named none = none owner refl
-
-  pub ttl-blamed : IsNoTtl f.ttl → OwnedGives o earlier owner f (faulty bad_ttl)
-  ttl-blamed h = inr (named, inl (h, refl))
 
   is_in : is_other_class f.class ≡ false → is_other_class f.class ≡ true → ⊥
   is_in e h = false≢true (sym e ∙ h)

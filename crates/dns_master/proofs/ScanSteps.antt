@@ -110,19 +110,6 @@ pub record ReadSoFar (text : Octets) (before : ℕ) (b : Bool) (rest : Octets)
   pub words_are : words ≡ words_read tokens
   pub places_are : map shown_place spots ≡ filter_map word_place tokens
 
-pub none_read : (text : Octets) (before : ℕ) → ReadSoFar text before false text [] []
-none_read text before =
-    let here : before + (length text - length text) ≡ before = omega arith in
-    record {
-      left = length text;
-      enough = omega arith;
-      short = omega arith;
-      tokens = [];
-      read = ap (λ n. read_entry (length text) false n text) (sym here);
-      words_are = refl;
-      places_are = refl;
-    }
-
 module _ (text : Octets) (before : ℕ) (b : Bool) (rest : Octets) (words : List Word)
     (spots : List Place) (so : ReadSoFar text before b rest words spots) where
   abbrev here : ℕ

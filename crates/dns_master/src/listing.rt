@@ -1,5 +1,5 @@
 //! All faults of a zone file, each with its place (RFC 1035 section 5).
-ghost use Rattle.std.specs.Prelude.{◌≡◌, ◌-◌, ◌^◌, ◌<◌, ◌≤◌, ◌++◌, ◌+◌, [], ◌∷◌, List, length, IfOk, OnOk};
+ghost use Rattle.std.specs.Prelude.{◌≡◌, ◌-◌, ◌^◌, ◌<◌, ◌≤◌, ◌++◌, ◌+◌, [], ◌∷◌, List, length, IfErr, IfOk, OnOk, ◌⊎◌};
 ghost use Rattle.dns_spec.specs.AllFaults as all;
 ghost use Rattle.dns_master.specs.Codes.{failures_after_read, fault_of};
 ghost use Rattle.dns_master.specs.ListingForm.{EntryScanned, shown_fault};
@@ -54,11 +54,16 @@ impl FaultList {
     }
 }
 
-/// Reads the octets of a file: all, or those up to one past its limit.
+/// Reads the octets of a file: all, or those up to one past its limit, which is 16,777,216.
+///
+/// Fails with `SourceFailed` if the source fails, and with `NoMemory` only if allocation fails, in
+/// each case with line 0. The octets that were read are lost then.
 pub fn read_octets<R: Read>(alloc: Global, source: &mut Tally<R>) -> Result<Vec<u8>, ReadFault>
     requires { source.old.failures < 2 ^ 64 - 1 }
     ensures ok { IfOk result (λ text. ReadsOctets (R.remaining source.old.device)
         (R.remaining source.new.device) text.items) }
+    ensures err { IfErr result (λ f. ((f.code ≡ ReadCode.SourceFailed)
+        ⊎ (f.code ≡ ReadCode.NoMemory)) × (f.line ≡ 0)) }
     ensures counted { source.new.failures ≡ failures_after_read source.old.failures result }
 {
     let mut text = Vec::new(alloc);
@@ -74,8 +79,10 @@ pub fn read_octets<R: Read>(alloc: Global, source: &mut Tally<R>) -> Result<Vec<
     Ok(text)
 }
 
-/// Lists the faults of the text of a file, and adds the records of the entries without a fault to
-/// the caller's collection.
+/// Lists the faults of the text of a file (RFC 1035 section 5), and adds the records of the entries
+/// without a fault to the caller's collection, in order.
+///
+/// Fails only if allocation fails. The collection may have some of the records then.
 pub fn list_text<G: Gathers>(
     alloc: Global,
     origin: &Name,

@@ -86,16 +86,12 @@ pub(crate) fn scan<'a>(
         let begins = before + (text.len() - rest.len());
         match step_after(token, is_open) {
             Progress::Misplaced => {
-                return Ok(EntryScan {
-                    ending: Ending::AtParenthesis(rest),
-                    ends: begins,
-                });
+                let ending = Ending::AtParenthesis(rest);
+                return Ok(EntryScan { ending, ends: begins });
             }
             Progress::Over => {
-                return Ok(EntryScan {
-                    ending: Ending::AfterLine(others),
-                    ends: begins,
-                });
+                let ending = Ending::AfterLine(others);
+                return Ok(EntryScan { ending, ends: begins });
             }
             Progress::Onward(now_open) => is_open = now_open,
         }

@@ -6,7 +6,7 @@ ghost use Rattle.std.specs.Cmp.{nat_eq_equiv, partial_equiv_from_equiv};
 ghost use Rattle.std.specs.Cmp.Lexicographic.{lists_per, lists_equiv, slice_cmp};
 ghost use Rattle.std.specs.Ordering.{ordering_then};
 ghost use Rattle.std.specs.Iterator.{YieldsFirst, item_count};
-ghost use Rattle.dns_spec.specs.Names.{is_name, wire, folded, same, at_or_below, below, names_equal, label_order, name_order};
+ghost use Rattle.dns_spec.specs.Names.{is_name, wire, folded, same, at_or_below, below, names_equal, label_order};
 ghost use Rattle.dns_spec.specs.Checks.{first_is_asterisk};
 ghost use Rattle.dns_name.specs.WireForm.{labels_of, IsWireForm};
 
@@ -121,19 +121,6 @@ impl NameRef<'_> {
             Some(label) => label.octets() == b"*".as_slice(),
             None => false,
         }
-    }
-
-    /// The canonical order of two names (RFC 4034 6.1), for sorting many names. Condition: both
-    /// names are in lower case.
-    ///
-    /// Labels are compared from the right. A label comes before any longer label that begins with
-    /// it, and a name before all names below it.
-    pub fn order_in_lower_case(&self, other: &NameRef<'_>) -> Ordering
-        requires this { folded self.now ≡ self.now }
-        requires other { folded other.now ≡ other.now }
-        ensures { result ≡ name_order self.now other.now }
-    {
-        self.order_as_spelled(other)
     }
 
     // Compares labels from the right, and letters of different case as different. A fast path: two

@@ -135,14 +135,6 @@ faulty_typed : (t : ℕ) (origin : DomainName) (ws : List Word) (i : ℕ) → is
 faulty_typed t origin [] i plain some h = absurd (some refl)
 faulty_typed t origin (w ∷ ws) i plain some h = grind arith
 
--- a type without a mnemonic
-pub no_row_at : (t : ℕ) (origin : DomainName) (ws : List Word) → is_marked ws ≡ false
-    → row_of t ≡ None → FaultyData t ws origin (min (length ws) 1)
-no_row_at t origin [] plain none = omega arith
-no_row_at t origin (w ∷ ws) plain none =
-    faulty_typed t origin (w ∷ ws) (min (length (w ∷ ws)) 1) plain (λ e. absurd (omega (arith, e)))
-    (rw none (omega arith))
-
 -- the lower-case data that words spell is valid too
 pub said_valid : (t : ℕ) (ws : List Word) (origin : DomainName) (d : Octets)
     → Says t ws origin d → Valid t d
@@ -156,17 +148,6 @@ module _ (t : ℕ) (row : TypeRow) (origin : DomainName) (ws : List Word) (count
       → FieldsFaultIs (word_fields count row.fields) origin 0 ws k → DataFaultIs t ws origin k
   typed_fault k many fault =
       fault_typed t origin ws k plain (rw (sym is) (rw (sym counted) (rw (sym many) fault)))
-
-  pub count_at : false ≡ (length (word_fields count row.fields) == count)
-      → FaultyData t ws origin 0
-  count_at few = by_words ws plain counted
-    where
-      by_words : (ws : List Word) → is_marked ws ≡ false → count ≡ length ws
-          → FaultyData t ws origin 0
-      by_words [] plain counted = refl
-      by_words (w ∷ ws) plain counted =
-          faulty_typed t origin (w ∷ ws) 0 plain (λ e. absurd (omega (arith, e)))
-          (rw (sym is) (rw (sym counted) (rw (sym few) refl)))
 
   typed_at : (i : ℕ) → true ≡ (length (word_fields count row.fields) == count)
       → FaultyField (word_fields count row.fields) origin 0 ws i → FaultyData t ws origin (i + 1)

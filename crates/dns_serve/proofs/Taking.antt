@@ -22,14 +22,6 @@ end_of_end n rest octets left e is = record {
       ∙ ap (λ r. (e.front ++ take n rest) ++ r) (sym is);
 }
 
-pub took_nothing : (z : ZoneContents) (most : ℕ) (s : SessionState) (x sent octets : Octets)
-    → HasTaken z most s x sent → Took z most s x sent octets octets
-took_nothing z most s x sent octets h = record {
-  taken = [];
-  split = refl;
-  has_taken = subst (λ y. HasTaken z most s y sent) (sym (append-nil x)) h;
-}
-
 -- the taken octets of a piece, and those that it leaves
 module _ (z : ZoneContents) (most : ℕ) (s : SessionState) (then : FrameState)
     (x sent octets rest left : Octets) (t : Took z most s x sent octets rest) (others : left ≡ drop (missing_of s.frame) rest)

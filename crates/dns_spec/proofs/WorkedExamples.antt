@@ -8,7 +8,6 @@ pub mod CheckRows
 pub mod CommandRows
 pub mod DataRows
 pub mod FileRows
-pub mod LimitRows
 pub mod MeaningRows
 pub mod MessageLineRows
 pub mod MessageRows

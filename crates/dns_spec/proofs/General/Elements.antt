@@ -139,10 +139,6 @@ pub among_back : {X : Type 0} (a : X) (xs ys : List X) → Among a ys → Among 
 among_back a [] ys m = m
 among_back a (x ∷ xs) ys m = inr (among_back a xs ys m)
 
-pub taken_among : {X : Type 0} (a : X) (xs : List X) (k : ℕ) → Among a (take k xs) → Among a xs
-taken_among a xs k m =
-    subst (Among a) (take-append-drop k xs) (among_front a (take k xs) (drop k xs) m)
-
 pub among_either : {X : Type 0} (a : X) (xs ys : List X) → Among a (xs ++ ys)
     → Among a xs ⊎ Among a ys
 among_either a [] ys m = inr m
@@ -189,10 +185,6 @@ contains_among a (x ∷ xs) (suc k, h, e) = inr (contains_among a xs (k, omega a
 pub among_get : {X : Type 0} (xs : List X) (i : ℕ) (d : X)
     → i < length xs → Among (get_or xs i d) xs
 among_get xs i d l = contains_among _ xs (i, l, get_or_default xs i _ d l)
-
-pub among_taken : {X : Type 0} (a : X) (xs : List X) (i k : ℕ)
-    → i ≤ k → i < length xs → Among (get_or xs i a) (take (suc k) xs)
-among_taken a xs i k l m = grind (arith, length-take, get_or-take, among_get)
 
 pub among_contains : {X : Type 0} (a : X) (xs : List X) → Among a xs → Contains xs a
 among_contains a [] m = absurd m

@@ -186,10 +186,6 @@ module _ (z : ZoneContents) (origin : folded z.origin ≡ z.origin) (low : AllBy
   alias_is_set : (s : DomainName) → IsSetAt (alias_set z s)
   alias_is_set s = grind (arith, one_record_set, shown_set)
 
-  lowest_set : (q : DomainName) (rs : List ResourceRecord)
-      → Shown q rs → IsSetAt (of_lowest_type rs)
-  lowest_set q rs s = grind (arith, one_record_set, shown_set)
-
   asked_is_set : (q : DomainName) (rs : List ResourceRecord) (t : ℕ)
       → Shown q rs → Sets (item answer (asked_records t rs))
   asked_is_set q rs t s = grind (arith, shown_set)

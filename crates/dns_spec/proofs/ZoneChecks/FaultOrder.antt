@@ -95,9 +95,6 @@ module _ (o : DomainName) (xs ys : List ResourceRecord) (c : SameCounts xs ys) w
   unfolding z z'
   data_at_cut_kept n = grind (arith, owns_kept, any_at)
 
-  wildcard_ns_kept : Kept wildcard_ns
-  wildcard_ns_kept n = ap (λ b. first_is_asterisk n && b) (owns_kept n type_ns)
-
   large_set_kept : Kept large_set
   large_set_kept n = grind (arith, same_at, any_at)
 
