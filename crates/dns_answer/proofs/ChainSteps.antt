@@ -1,5 +1,16 @@
 -- The rest of an answer, by what is found at a name of the chain.
-use Rattle.dns_answer.proofs.Common.{◌≡◌, ℕ, zero, suc, ◌+◌, true, false, cond, ◌&&◌, ◌⊎◌, inl, inr, List, [], ◌∷◌, ◌++◌, None, Some, refl, sym, ap, ◌∙◌, arith, add-one, append-nil, append_assoc, and-false, DomainName, type_cname, ResourceRecord, ZoneContents, of_type, cut_of, found, name_error, answer, Item, item, follows_alias, alias_set, next_sought, chain_from, last_of, has_any, Outcome, positive, negative, referral_to, outcome_by, outcome_at, labels_below, ending, after_sets, names_from, aliases_of, rest_of, chain_rest, leads_on, sum_cons}
+use Rattle.dns_answer.proofs.Common.{◌≡◌, ℕ, zero, suc, ◌+◌, true, false, cond, ◌&&◌, ◌⊎◌, inl, inr, List, [], ◌∷◌, ◌++◌, None, Some, refl, sym, ap, ◌∙◌, arith, add-one, append-nil, append_assoc, and-false, DomainName, type_cname, ResourceRecord, ZoneContents, of_type, cut_of, found, name_error, answer, Item, item, follows_alias, alias_set, next_sought, chain_from, last_of, has_any, Outcome, positive, negative, referral_to, outcome_by, outcome_at, labels_below, ending, names_from, aliases_of, rest_of, chain_rest, leads_on, sum_cons}
+use Rattle.dns_answer.specs.Ending.{Rest}
+
+-- the rest of an answer with these sets in front and one more name sought
+abbrev pub after_sets : List Item → ℕ → Rest → Rest
+after_sets is nodes r = record {
+  items = is ++ r.items;
+  required = is ++ r.required;
+  outcome = r.outcome;
+  nodes = nodes + r.nodes;
+  misses = 2 + r.misses;
+}
 
 -- if no name is sought after s, the chain from s is s alone; otherwise the next name follows
 from-last : (z : ZoneContents) (k : ℕ) (sought : List DomainName) (s : DomainName)

@@ -10,7 +10,7 @@ unfoldable pub use Rattle.dns_answer.specs.Chain.{chain_rest}
 pub use Rattle.dns_answer.specs.Draft.{Draft, empty_draft, offer, size_with}
 unfoldable pub use Rattle.dns_answer.specs.Draft.{offered}
 pub use Rattle.dns_answer.specs.DraftForm.{Holds, Offers, State}
-pub use Rattle.dns_answer.specs.Ending.{Ends, IsPlain, Rest, Says, TookRest, after_sets, all_names, asked_item, ending, ending_required, ending_targets, glue_by, inside, misses_by, nodes_by, not_inside, others_by}
+pub use Rattle.dns_answer.specs.Ending.{Ends, IsPlain, Rest, Says, TookRest, all_names, asked_item, ending, ending_required, ending_targets, glue_by, inside, misses_by, nodes_by, not_inside, others_by}
 pub use Rattle.dns_answer.specs.Replies.{Answers, Costs, IsHeaded, IsLaidOut, IsPut, IsReply, Responds}
 pub use Rattle.dns_answer.specs.Seeking.{AreTargets, Completes, Followed, HasNoAlias, IsShown, MaySeek, NextIs, Seeks, aliases_left, leads_on, names_of, unsought}
 pub use Rattle.dns_answer.specs.Targets.{Reaches, addresses_of, depth_in, set_targets, side_nodes, side_takes, takes_target, target_at, target_items, target_misses, target_nodes, targets_of_first}

@@ -1,12 +1,12 @@
 -- What seeking a name has offered and what it cost, by what is found for it.
-use Rattle.dns_answer.proofs.Common.{◌≡◌, inl, inr, ℕ, ◌+◌, ◌*◌, ◌<◌, ◌≤◌, Bool, true, false, cond, ◌&&◌, ◌||◌, List, [], ◌∷◌, ◌++◌, map, length, Option, None, Some, refl, sym, ap, ap₂, ◌∙◌, arith, subst, list_any, DomainName, folded, names_equal, same, at_or_below, type_cname, ResourceRecord, ZoneContents, at, of_type, with_owner, RecordSet, records_at, no_error, answer, Item, most_aliases, item, follows_alias, alias_set, first_target, has_any, Outcome, outcome_by, positive, negative, and_from, and_right, list_any-append, Walk, ZoneNode, IsSetOf, State, Offers, Rest, ending, after_sets, Says, TookRest, asked_item, AreRecords, Took, IsApex, IsBelow, labels_below, target_at, chain_rest, names_of, aliases_left, leads_on, unsought, AreTargets, MaySeek, Seeks, HasNoAlias, IsShown, NextIs, Sought, Verdict, All, drop, All-nil, All-cons, All-head, All-tail, All-append, or_comm, or-false, length-map, length-reverse, map-append, reverse-append}
+use Rattle.dns_answer.proofs.Common.{◌≡◌, inl, inr, ℕ, ◌+◌, ◌*◌, ◌<◌, ◌≤◌, Bool, true, false, cond, ◌&&◌, ◌||◌, List, [], ◌∷◌, ◌++◌, map, length, Option, None, Some, refl, sym, ap, ap₂, ◌∙◌, arith, subst, list_any, DomainName, folded, names_equal, same, at_or_below, type_cname, ResourceRecord, ZoneContents, at, of_type, with_owner, RecordSet, records_at, no_error, answer, Item, most_aliases, item, follows_alias, alias_set, first_target, has_any, Outcome, outcome_by, positive, negative, and_from, and_right, list_any-append, Walk, ZoneNode, IsSetOf, State, Offers, Rest, ending, Says, TookRest, asked_item, AreRecords, Took, IsApex, IsBelow, labels_below, target_at, chain_rest, names_of, aliases_left, leads_on, unsought, AreTargets, MaySeek, Seeks, HasNoAlias, IsShown, NextIs, Sought, Verdict, All, drop, All-nil, All-cons, All-head, All-tail, All-append, or_comm, or-false, length-map, length-reverse, map-append, reverse-append}
 use Rattle.dns_answer.proofs.TargetLaws.{same-lower}
 use Rattle.dns_answer.proofs.Taking.{Took-then, HasNodesLeft-after}
 use Rattle.dns_answer.proofs.Offered.{offered-append}
 use Rattle.dns_answer.proofs.Offering.{Offers-then}
 use Rattle.dns_answer.proofs.EndingSets.{item-shown, of_type-shown}
 use Rattle.dns_answer.proofs.AskedSets.{asked-none, asked-some, set_of-none, set_of-some}
-use Rattle.dns_answer.proofs.ChainSteps.{alias-found, outcome-found, outcome-alias, ends-plain, ends-alias, goes-on}
+use Rattle.dns_answer.proofs.ChainSteps.{alias-found, outcome-found, outcome-alias, ends-plain, ends-alias, goes-on, after_sets}
 
 -- the sets of an alias are offered, and then the rest of the answer
 pub says-after : {w w1 w' : State} {r : Rest} {v : Verdict} (is : List Item) (nodes : ℕ)

@@ -74,16 +74,6 @@ ending z o = record {
   misses = misses_by o.referral (ending_targets o);
 }
 
--- the rest of an answer with these sets in front and one more name sought
-abbrev pub after_sets : List Item → ℕ → Rest → Rest
-after_sets is nodes r = record {
-  items = is ++ r.items;
-  required = is ++ r.required;
-  outcome = r.outcome;
-  nodes = nodes + r.nodes;
-  misses = 2 + r.misses;
-}
-
 -- The sets of the rest are offered, and the verdict states how the answer ends.
 pub record Says (w w' : State) (r : Rest) (v : Verdict) : Type 0 where
   pub offers : Offers w w' r.items

@@ -8,8 +8,23 @@ use Rattle.dns_spec.proofs.Replies.FirstOctets.{first_octets_answer}
 use Rattle.dns_name.specs.Counted.{AppendsBeginning}
 use Rattle.dns_serve.specs.Framing.{FrameState, HasCome}
 use Rattle.dns_serve.specs.Reads.{FrameRead, GivesMessage, GivesNothing}
-use Rattle.dns_serve.specs.Streams.{Session, AreFrames, HasServed, WasRefused, SessionOf, HasAnswered, HasBegun, reply_over_tcp}
+use Rattle.dns_serve.specs.Streams.{Session, AreFrames, HasServed, WasRefused, SessionOf, reply_over_tcp}
 use Rattle.dns_serve.specs.declared.fault.StreamFault.{StreamFault}
+
+-- One message was read, and a prefix of its reply was written.
+pub record HasBegun (reply : Octets → Option Octets) (s : Session) : Type 0 where
+  pub message : Octets
+  pub short : length message < 2 ^ 16
+  pub read : Consumes s.unread s.left (frame message)
+  pub taken : ℕ
+  pub written : Appends s.held s.holds (take taken (reply_frame (reply message)))
+
+-- One message was read, and its reply was written.
+pub record HasAnswered (reply : Octets → Option Octets) (s : Session) : Type 0 where
+  pub message : Octets
+  pub short : length message < 2 ^ 16
+  pub read : Consumes s.unread s.left (frame message)
+  pub written : Appends s.held s.holds (reply_frame (reply message))
 
 abbrev session : Option Octets → Option Octets → Option Octets → Option Octets → Session
 session a b c d = record { unread = a; left = b; held = c; holds = d }

@@ -103,18 +103,3 @@ sink_failures_after count (Ok a) = count
 sink_failures_after count (Err SourceFailed) = count
 sink_failures_after count (Err SinkFailed) = count + 1
 sink_failures_after count (Err Cut) = count
-
--- One message was read, and its reply was written.
-pub record HasAnswered (reply : Octets → Option Octets) (s : Session) : Type 0 where
-  pub message : Octets
-  pub short : length message < 2 ^ 16
-  pub read : Consumes s.unread s.left (frame message)
-  pub written : Appends s.held s.holds (reply_frame (reply message))
-
--- One message was read, and a prefix of its reply was written.
-pub record HasBegun (reply : Octets → Option Octets) (s : Session) : Type 0 where
-  pub message : Octets
-  pub short : length message < 2 ^ 16
-  pub read : Consumes s.unread s.left (frame message)
-  pub taken : ℕ
-  pub written : Appends s.held s.holds (take taken (reply_frame (reply message)))

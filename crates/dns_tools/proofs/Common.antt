@@ -19,12 +19,12 @@ pub use Rattle.dns_spec.specs.Reading.{NoMessage}
 pub use Rattle.dns_spec.specs.Report.{bare_name_text, failing, line_report, loaded_report, two_digits}
 pub use Rattle.dns_tools.specs.Checked.{CheckedAs, ReportedAs, ReportsOn, WrittenAs, options_of}
 pub use Rattle.dns_tools.specs.ExchangeForm.{kept_of, reply_of}
-pub use Rattle.dns_tools.specs.Exchanges.{Answered, Begun, Grows, HasAnsweredEnded, HasAnsweredLines, HasBegunAnswers, IsFresh, IsInput, KeepsUp, Kept, LinesAnswered, Progress}
+pub use Rattle.dns_tools.specs.Exchanges.{Begun, Grows, HasAnsweredEnded, HasAnsweredLines, HasBegunAnswers, IsFresh, IsInput, KeepsUp, Kept, LinesAnswered, Progress}
 pub use Rattle.dns_tools.specs.FirstLine.{HasReadFront, IsFront, KeepsFirst, ReadsFirst}
 pub use Rattle.dns_tools.specs.KeptLine.{KeepsOctet, KeptLine, kept_line, kept_message, no_line}
 pub use Rattle.dns_tools.specs.Load.{LoadedAs, refusal_report}
 pub use Rattle.dns_tools.specs.Parts.{part_text, parts_text}
-pub use Rattle.dns_tools.specs.Printed.{IsFaultReport, PrintedAs}
+pub use Rattle.dns_tools.specs.Printed.{PrintedAs}
 pub use Rattle.dns_tools.specs.Stops.{sink_failures_after, source_failures_after}
 pub use Rattle.dns_tools.specs.Turns.{TakesTurns}
 pub use Rattle.dns_tools.specs.declared.fault.Stop.{Stop}

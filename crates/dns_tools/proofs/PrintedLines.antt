@@ -1,7 +1,14 @@
 -- What was printed for a message, a fault or a line is what a run must print.
-use Rattle.dns_tools.proofs.Common.{◌≡◌, ◌≢◌, ℕ, ◌≤◌, Bool, false, Option, Some, None, Result, Ok, Err, codes, refl, sym, subst, arith, inr, Octets, Report, IfErr, NoMessage, PrintsOctets, PrintsMessage, UnlessNoMemory, WireFault, Short, ReservedLabel, BadPointer, LongName, BadData, Trailing, NoMemory, Stop, Memory, Source, Sink, source_failures_after, sink_failures_after, ReportedAs, KeptLine, kept_message, HasReadFront, ReadsFirst, IsFaultReport, PrintedAs}
+use Rattle.dns_tools.proofs.Common.{◌≡◌, ◌≢◌, ℕ, ◌≤◌, Bool, false, Option, Some, None, Result, Ok, Err, codes, refl, sym, subst, arith, inr, Octets, Report, IfErr, NoMessage, PrintsOctets, PrintsMessage, UnlessNoMemory, WireFault, Short, ReservedLabel, BadPointer, LongName, BadData, Trailing, NoMemory, Stop, Memory, Source, Sink, source_failures_after, sink_failures_after, ReportedAs, KeptLine, kept_message, HasReadFront, ReadsFirst, PrintedAs}
 use Rattle.dns_spec.specs.MessageFaults.{MessageFault}
 use Rattle.dns_wire.specs.WireFault.{fault_code}
+use Rattle.dns_tools.specs.Printed.{fault_line}
+
+-- what is printed for octets that are not a message, by their fault
+abbrev pub IsFaultReport : WireFault → Report → Type 0
+IsFaultReport fault report =
+    (fault ≢ NoMemory)
+    × (report ≡ record { output = fault_line (fault_code fault); passes = false })
 
 code_within : (fault : WireFault)
     → fault ≢ NoMemory → (1 ≤ fault_code fault) × (fault_code fault ≤ 6)

@@ -99,9 +99,3 @@ pub record Progress (reply : Octets → Option Octets) (held holds : Option Octe
 abbrev pub Begun : (Octets → Option Octets) → Option Octets → Option Octets → Octets → Type 0
 Begun reply held holds x =
     (y : Octets) → AppendsBeginning held holds (line_answers reply (lines (x ++ y)))
-
--- All lines of an input were answered.
-pub record Answered (reply : Octets → Option Octets) (held holds : Option Octets) (x : Octets)
-    (passes : Bool) : Type 0 where
-  pub written : Appends held holds (line_answers reply (lines x))
-  pub passes_is : passes ≡ are_messages (lines x)

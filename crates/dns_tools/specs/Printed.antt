@@ -16,12 +16,6 @@ use Rattle.dns_tools.specs.FirstLine.{HasReadFront, HasReadLine}
 abbrev pub fault_line : ℕ → Octets
 fault_line n = codes "fault " ++ decimal n ++ codes "\n"
 
--- what is printed for octets that are not a message, by their fault
-abbrev pub IsFaultReport : WireFault → Report → Type 0
-IsFaultReport fault report =
-    (fault ≢ NoMemory)
-    × (report ≡ record { output = fault_line (fault_code fault); passes = false })
-
 -- The first line of an input was read, and what is printed for that input was written, or a prefix
 -- of it.
 pub record HasPrinted (s : Session) (result : Result Bool Stop) : Type 0 where

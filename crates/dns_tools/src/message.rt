@@ -7,7 +7,7 @@ ghost use Rattle.dns_serve.specs.Streams.{session};
 ghost use Rattle.dns_wire.specs.WireFault.{fault_code};
 ghost use Rattle.dns_tools.specs.Checked.{ReportedAs};
 ghost use Rattle.dns_tools.specs.FirstLine.{HasReadFront, ReadsFirst};
-ghost use Rattle.dns_tools.specs.Printed.{fault_line, IsFaultReport, PrintedAs};
+ghost use Rattle.dns_tools.specs.Printed.{fault_line, PrintedAs};
 ghost use Rattle.dns_tools.specs.KeptLine.{kept_message};
 ghost use Rattle.dns_tools.specs.declared.line.TheConstants.{MOST_LINE_OCTETS};
 ghost use Rattle.dns_tools.specs.Stops.{source_failures_after, sink_failures_after};

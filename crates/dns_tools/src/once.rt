@@ -3,7 +3,7 @@ ghost use Rattle.std.specs.Prelude.{◌≡◌, ◌≢◌, ◌-◌, ◌*◌, ◌^
 ghost use Rattle.std.specs.Option.{is_some, option_copied};
 ghost use Rattle.dns_spec.specs.Names.{Octets};
 ghost use Rattle.dns_spec.specs.Lines.{line_answers, lines, message_answer, reply_line};
-ghost use Rattle.dns_tools.specs.Exchanges.{Answered, Begun, Grows, IsFresh, LinesAnswered, Progress, reply_within};
+ghost use Rattle.dns_tools.specs.Exchanges.{Begun, Grows, IsFresh, LinesAnswered, Progress, reply_within};
 ghost use Rattle.dns_tools.specs.KeptLine.{kept_message, no_line};
 ghost use Rattle.dns_name.specs.Counted.{AppendsBeginning, Writes, failures_after};
 ghost use Rattle.dns_serve.specs.Streams.{session};

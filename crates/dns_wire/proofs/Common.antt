@@ -28,13 +28,12 @@ pub use Rattle.dns_spec.proofs.Messages.Places.{Stands, label_parts, run_written
 pub use Rattle.dns_wire.specs.Chains.{AreChains, chain_of, entry_at, kept_in, last_with}
 pub use Rattle.dns_wire.specs.Draft.{Draft, Grows, HasNames, IsDraft, IsWellKept, Writes, WritesAfter, counts_of, draft_of, item_of, known_places, names_so_far, no_draft, with_counted, with_octets, with_set}
 pub use Rattle.dns_wire.specs.Kept.{HasAt, HasPlace, IsKept, IsSharedAt, Kept, NoneSpelled, SpelledAt, SpelledFrom, SpellsSuffix}
-pub use Rattle.dns_wire.specs.Labels.{IsReading, LabelAt, NoRunAt, PointerAt, end_or}
-pub use Rattle.dns_wire.specs.FieldReads.{AreFieldsRead, IsFieldRead}
+pub use Rattle.dns_wire.specs.Labels.{LabelAt, NoRunAt, PointerAt}
+pub use Rattle.dns_wire.specs.FieldReads.{IsFieldRead}
 pub use Rattle.dns_wire.specs.QueryForm.{NameEnds}
-pub use Rattle.dns_wire.specs.Read.{AreRead}
 pub use Rattle.dns_wire.specs.SuffixNumbers.{with_eights}
 unfoldable pub use Rattle.dns_wire.specs.SuffixNumbers.{octets_number, suffix_number}
-pub use Rattle.dns_wire.specs.Writing.{AfterLabel, Answers, Follows, Form, Holds, IsAsked, IsForm, IsLaid, IsLaidAs, IsLastOf, Layout, NotAsked, both_laid, end_octets, form_again, name_before, name_laid, octets_laid, parts_laid, shown, tail_laid}
+pub use Rattle.dns_wire.specs.Writing.{AfterLabel, Answers, Follows, Form, Holds, IsAsked, IsForm, IsLaid, IsLaidAs, IsLastOf, Layout, NotAsked, end_octets, form_again, name_before, name_laid, octets_laid, parts_laid, shown, tail_laid}
 unfoldable pub use Rattle.dns_wire.specs.Writing.{asked_places, front_size, new_places, pointed_place, records_laid}
 pub use Rattle.dns_wire.specs.declared.message.Counts.{Counts}
 pub use Rattle.dns_wire.specs.declared.page.Section.{Section}

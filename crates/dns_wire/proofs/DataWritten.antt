@@ -1,8 +1,8 @@
 -- Data and records are written part by part.
-use Rattle.dns_wire.proofs.Common.{◌≡◌, ◌*◌, ◌+◌, ◌-◌, ◌≤◌, ◌∙◌, ℕ, Bool, true, false, List, [], ◌∷◌, ◌++◌, length, take, drop, refl, sym, ap, ap₂, subst, subst₂, arith, append_assoc, append-nil, length-append, take_at, drop_at, take-append-add, Octets, class_in, Part, octets, name, laid_parts, Placed, Laid, octets16, octets32, data_laid, data_by, Kept, suffix_number, Follows, Holds, Layout, octets_laid, name_laid, both_laid, parts_laid, tail_laid, Draft, known_places, Writes, zero, suc, length-drop, suc-mul, laid_front, nil_from_length, take-append-drop}
+use Rattle.dns_wire.proofs.Common.{◌≡◌, ◌*◌, ◌+◌, ◌-◌, ◌≤◌, ◌∙◌, ℕ, Bool, true, false, List, [], ◌∷◌, ◌++◌, length, take, drop, refl, sym, ap, ap₂, subst, subst₂, arith, append_assoc, append-nil, length-append, take_at, drop_at, take-append-add, Octets, class_in, Part, octets, name, laid_parts, Placed, Laid, octets16, octets32, data_laid, data_by, Kept, suffix_number, Follows, Holds, Layout, octets_laid, name_laid, parts_laid, tail_laid, Draft, known_places, Writes, zero, suc, length-drop, suc-mul, laid_front, nil_from_length, take-append-drop}
 use Rattle.dns_wire.proofs.AskedLemmas.{kept_same}
 use Rattle.dns_wire.proofs.NameWritten.{holds_octets}
-use Rattle.dns_wire.proofs.Steps.{grows_again, writes_as, writes_both, writes_past}
+use Rattle.dns_wire.proofs.Steps.{grows_again, writes_as, writes_both, writes_past, both_laid}
 use Rattle.dns_spec.proofs.General.Fronts.{take_patched}
 
 abbrev pub part_laid : Part → Layout

@@ -1,6 +1,16 @@
 -- A field of data is read after the fields before it.
 use Rattle.dns_spec.specs.MessageFaults.{FieldFault, FieldsFault}
-use Rattle.dns_wire.proofs.Common.{refl, ◌≡◌, ◌≢◌, ℕ, ◌-◌, ◌<◌, List, [], ◌∷◌, ◌++◌, length, take, drop, Some, None, arith, append_assoc, append-nil, lt-leb, eq-eqb, Octets, DomainName, Field, domain, Part, part_octets, field_front, name_at, field_at, fields_at, field_own, IsFieldRead, AreFieldsRead}
+use Rattle.dns_wire.proofs.Common.{refl, ◌≡◌, ◌≢◌, ℕ, ◌-◌, ◌<◌, List, [], ◌∷◌, ◌++◌, length, take, drop, Some, None, arith, append_assoc, append-nil, lt-leb, eq-eqb, Octets, DomainName, Field, domain, Part, part_octets, field_front, name_at, field_at, fields_at, field_own, IsFieldRead}
+use Rattle.std.specs.Option.{option_map}
+use Rattle.std.specs.Prelude.{◌≤◌}
+
+-- The invariant of reading fields: the octets so far, followed by what the remaining fields spell
+-- from place j on, are what all the fields spell from place i on; and their fault is that of all.
+pub record AreFieldsRead (b : Octets) (ps : List Field) (i e : ℕ) (left : List Field) (j : ℕ)
+    (so_far : Octets) : Type 0 where
+  pub inside : j ≤ e
+  pub same : fields_at b ps i e ≡ option_map (λ d. so_far ++ d) (fields_at b left j e)
+  pub faults : (f : ℕ) → FieldsFault b left j e f → FieldsFault b ps i e f
 
 pub field_more : {b : Octets} {ps : List Field} {i e j k : ℕ} {p : Field}
     {left : List Field} {so_far now : Octets} → AreFieldsRead b ps i e (p ∷ left) j so_far

@@ -1,7 +1,18 @@
 -- Questions or records are read one after another.
-use Rattle.dns_wire.proofs.Common.{◌≡◌, ℕ, zero, suc, ◌<◌, List, [], ◌∷◌, ◌++◌, Option, Some, None, option_map, ◌∙◌, arith, append_assoc, append-nil, several, AreRead}
+use Rattle.dns_wire.proofs.Common.{◌≡◌, ℕ, zero, suc, ◌<◌, List, [], ◌∷◌, ◌++◌, Option, Some, None, option_map, ◌∙◌, arith, append_assoc, append-nil, several}
 use Rattle.dns_spec.specs.MessageFaults.{SeveralFault}
-use Rattle.dns_wire.specs.Read.{KeepsFault}
+
+-- the fault of the `left` that are read from place j on is that of all
+pub record KeepsFault {A : Type 0} (read : ℕ → Option (A × ℕ)) (Fault : ℕ → ℕ → Type 0)
+    (count i left j : ℕ) : Type 0 where
+  pub faults : (f : ℕ) → SeveralFault read Fault left j f → SeveralFault read Fault count i f
+
+-- The invariant of reading `count` questions or records in order from place i on: those in
+-- `so_far`, followed by the `left` that are read from place j on, are all of them.
+pub record AreRead {A : Type 0} (read : ℕ → Option (A × ℕ)) (count i : ℕ) (so_far : List A)
+    (left j : ℕ) : Type 0 where
+  pub same :
+      several read count i ≡ option_map (λ r. (so_far ++ r.0, r.1)) (several read left j)
 
 module _ {A : Type 0} {read : ℕ → Option (A × ℕ)} {count i j left : ℕ} {so_far : List A}
     (so : AreRead read count i so_far left j) where

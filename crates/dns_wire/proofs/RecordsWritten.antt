@@ -1,7 +1,7 @@
 -- Records are written one after another.
-use Rattle.dns_wire.proofs.Common.{◌≡◌, ℕ, ◌+◌, ◌*◌, ◌<◌, ◌≤◌, Bool, true, false, List, [], ◌∷◌, ◌++◌, length, take, drop, get_or, refl, sym, ap, ap₂, ◌∙◌, subst, subst₂, arith, add-zero, map, append_assoc, append-nil, length-append, take-append-drop, length-map, get_or-map, take_more, take_all, Octets, DomainName, ResourceRecord, RecordSet, records_at, laid_parts, Placed, Laid, laid_front, shared_octets, data_laid, record_laid, record_tail, records_octets, records_by, length-record_tail, both_laid, shown, records_laid, Draft, HasNames, Writes, WritesAfter, IsLaid, IsLaidAs, Form, form_again, ◌==◌, OnTrue, false≢true, ne_eqb, zero, suc}
+use Rattle.dns_wire.proofs.Common.{◌≡◌, ℕ, ◌+◌, ◌*◌, ◌<◌, ◌≤◌, Bool, true, false, List, [], ◌∷◌, ◌++◌, length, take, drop, get_or, refl, sym, ap, ap₂, ◌∙◌, subst, subst₂, arith, add-zero, map, append_assoc, append-nil, length-append, take-append-drop, length-map, get_or-map, take_more, take_all, Octets, DomainName, ResourceRecord, RecordSet, records_at, laid_parts, Placed, Laid, laid_front, shared_octets, data_laid, record_laid, record_tail, records_octets, records_by, length-record_tail, shown, records_laid, Draft, HasNames, Writes, WritesAfter, IsLaid, IsLaidAs, Form, form_again, ◌==◌, OnTrue, false≢true, ne_eqb, zero, suc}
 use Rattle.dns_wire.proofs.LaidAgain.{laid_again}
-use Rattle.dns_wire.proofs.Steps.{writes_as, writes_both, writes_past}
+use Rattle.dns_wire.proofs.Steps.{writes_as, writes_both, writes_past, both_laid}
 
 pub records_more : (ms : List Placed) (p : ℕ) (r : ResourceRecord) (rs : List ResourceRecord)
     → records_laid

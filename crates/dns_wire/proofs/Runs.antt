@@ -2,7 +2,26 @@
 use Rattle.dns_spec.specs.MessageFaults.{RunFault, NameFault, step_fault, stopped, too_long, labelled, pointed}
 use Rattle.dns_wire.specs.declared.fault.WireFault.{WireFault}
 use Rattle.dns_wire.specs.WireFault.{fault_code}
-use Rattle.dns_wire.proofs.Common.{pointer_place, ◌≡◌, ℕ, ◌+◌, ◌<◌, ◌≤◌, true, IfSome, [], ◌∷◌, ◌++◌, length, take, drop, get_or, slice_get, Option, Some, refl, sym, ap, ◌∙◌, subst, arith, false, append_assoc, append-nil, length-append, same_Some, slice_get_within, slice_get-get_or, Octets, DomainName, wire, is_name, RunAt, NameAt, ends, goes_on, jumps, length-take-le, length-drop, LabelAt, PointerAt, NoRunAt, name_at, name_at_computes, name_computed, None, IsReading, end_or}
+use Rattle.dns_wire.proofs.Common.{pointer_place, ◌≡◌, ℕ, ◌+◌, ◌<◌, ◌≤◌, true, IfSome, [], ◌∷◌, ◌++◌, length, take, drop, get_or, slice_get, Option, Some, refl, sym, ap, ◌∙◌, subst, arith, false, append_assoc, append-nil, length-append, same_Some, slice_get_within, slice_get-get_or, Octets, DomainName, wire, is_name, RunAt, NameAt, ends, goes_on, jumps, length-take-le, length-drop, LabelAt, PointerAt, NoRunAt, name_at, name_at_computes, name_computed, None}
+use Rattle.std.specs.Option.{unwrap_or}
+use Rattle.std.specs.Prelude.{IsTrue}
+
+-- the place after a name's own octets: `end` if a pointer was followed already, else e
+abbrev pub end_or : Option ℕ → ℕ → ℕ
+end_or end e = unwrap_or end e
+
+-- The invariant of reading a name from place `at`: the labels so far, followed by what the current
+-- run spells from place i on, are what the message spells at place `at`, and it spells nothing else
+-- there; and a fault from place i on is the name's fault.
+pub record IsReading (b : Octets) (at : ℕ) (n : DomainName) (s i : ℕ)
+    (end : Option ℕ) : Type 0 where
+  pub is_name : IsTrue (is_name n)
+  pub within : i ≤ length b
+  pub end_within : IfSome end (λ e. e ≤ length b)
+  pub forth : (m : DomainName) (e : ℕ) → RunAt b s i m e → RunAt b at at (n ++ m) (end_or end e)
+  pub faults : (f : ℕ) → RunFault b n s i f → NameFault b at f
+  pub back : (w : DomainName) (f : ℕ) → RunAt b at at w f
+      → (m : DomainName) × (e : ℕ) × RunAt b s i m e × (w ≡ n ++ m) × (f ≡ end_or end e)
 
 -- how a run continues from place i: with its end, a label, or a pointer
 pub data GoesOn (b : Octets) (s i : ℕ) (n : DomainName) (e : ℕ) : Type 0 where

@@ -1,8 +1,15 @@
 -- Steps of writing, one after another, write what is laid out one after another.
-use Rattle.dns_wire.proofs.Common.{◌≡◌, ℕ, ◌+◌, ◌*◌, ◌<◌, ◌≤◌, Bool, true, false, List, [], ◌++◌, length, take, refl, sym, ap₂, subst, subst₂, arith, append_assoc, append-nil, length-append, false≢true, take-append_seam, Octets, Placed, Kept, suffix_number, Holds, IsAsked, Layout, octets_laid, both_laid, Draft, draft_of, with_octets, HasNames, Grows, Writes, WritesAfter, IsWellKept, Counts}
+use Rattle.dns_wire.proofs.Common.{◌≡◌, ℕ, ◌+◌, ◌*◌, ◌<◌, ◌≤◌, Bool, true, false, List, [], ◌++◌, length, take, refl, sym, ap₂, subst, subst₂, arith, append_assoc, append-nil, length-append, false≢true, take-append_seam, Octets, Placed, Kept, suffix_number, Holds, IsAsked, Layout, octets_laid, Draft, draft_of, with_octets, HasNames, Grows, Writes, WritesAfter, IsWellKept, Counts}
 use Rattle.dns_wire.proofs.AskedLemmas.{is_asked_more, kept_more}
 use Rattle.dns_wire.proofs.NameWritten.{holds_octets}
 use Rattle.dns_wire.proofs.SuffixLemmas.{follows_none, follows_again}
+use Rattle.dns_spec.specs.Layout.{laid_front}
+
+-- one layout after another
+abbrev pub both_laid : Layout → Layout → Layout
+both_laid f g ms p =
+    let l = f ms p in
+    laid_front l.written l.names (g (ms ++ l.names) (p + length l.written))
 
 -- a page stays well kept with other octets, places and counts that satisfy the bounds
 pub kept_with : {N size a : ℕ} {b : Octets} {ks : List Kept} {n : Counts} {d : Draft} → IsWellKept N

@@ -12,11 +12,3 @@ pub record IsFieldRead (b : Octets) (p : Field) (i e : ℕ) (old new : Octets) (
   pub there : field_at b p i e ≡ Some (octets, j)
   pub appended : new ≡ old ++ octets
   pub inside : j ≤ e
-
--- The invariant of reading fields: the octets so far, followed by what the remaining fields spell
--- from place j on, are what all the fields spell from place i on; and their fault is that of all.
-pub record AreFieldsRead (b : Octets) (ps : List Field) (i e : ℕ) (left : List Field) (j : ℕ)
-    (so_far : Octets) : Type 0 where
-  pub inside : j ≤ e
-  pub same : fields_at b ps i e ≡ option_map (λ d. so_far ++ d) (fields_at b left j e)
-  pub faults : (f : ℕ) → FieldsFault b left j e f → FieldsFault b ps i e f

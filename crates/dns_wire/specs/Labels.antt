@@ -35,20 +35,3 @@ StepAt b s i (Jump p) = PointerAt b s i p
 -- no name continues at place i, in a run of labels that began at place s
 abbrev pub NoRunAt : Octets → ℕ → ℕ → Type 0
 NoRunAt b s i = (n : DomainName) (e : ℕ) → RunAt b s i n e → ⊥
-
--- the place after a name's own octets: `end` if a pointer was followed already, else e
-abbrev pub end_or : Option ℕ → ℕ → ℕ
-end_or end e = unwrap_or end e
-
--- The invariant of reading a name from place `at`: the labels so far, followed by what the current
--- run spells from place i on, are what the message spells at place `at`, and it spells nothing else
--- there; and a fault from place i on is the name's fault.
-pub record IsReading (b : Octets) (at : ℕ) (n : DomainName) (s i : ℕ)
-    (end : Option ℕ) : Type 0 where
-  pub is_name : IsTrue (is_name n)
-  pub within : i ≤ length b
-  pub end_within : IfSome end (λ e. e ≤ length b)
-  pub forth : (m : DomainName) (e : ℕ) → RunAt b s i m e → RunAt b at at (n ++ m) (end_or end e)
-  pub faults : (f : ℕ) → RunFault b n s i f → NameFault b at f
-  pub back : (w : DomainName) (f : ℕ) → RunAt b at at w f
-      → (m : DomainName) × (e : ℕ) × RunAt b s i m e × (w ≡ n ++ m) × (f ≡ end_or end e)

@@ -25,15 +25,3 @@ pub record HeaderAt (b : Octets) (h : Header) (counts : Counts) : Type 0 where
   pub answers : counts.answers ≡ field16 b 6
   pub authorities : counts.authorities ≡ field16 b 8
   pub additionals : counts.additionals ≡ field16 b 10
-
--- The invariant of reading `count` questions or records in order from place i on: those in
--- `so_far`, followed by the `left` that are read from place j on, are all of them.
-pub record AreRead {A : Type 0} (read : ℕ → Option (A × ℕ)) (count i : ℕ) (so_far : List A)
-    (left j : ℕ) : Type 0 where
-  pub same :
-      several read count i ≡ option_map (λ r. (so_far ++ r.0, r.1)) (several read left j)
-
--- the fault of the `left` that are read from place j on is that of all
-pub record KeepsFault {A : Type 0} (read : ℕ → Option (A × ℕ)) (Fault : ℕ → ℕ → Type 0)
-    (count i left j : ℕ) : Type 0 where
-  pub faults : (f : ℕ) → SeveralFault read Fault left j f → SeveralFault read Fault count i f

@@ -135,12 +135,6 @@ octets_laid o ms p = record { written = o; names = [] }
 abbrev pub name_laid : DomainName → Layout
 name_laid n ms p = record { written = shared_octets ms n; names = (n, p) ∷ [] }
 
--- one layout after another
-abbrev pub both_laid : Layout → Layout → Layout
-both_laid f g ms p =
-    let l = f ms p in
-    laid_front l.written l.names (g (ms ++ l.names) (p + length l.written))
-
 -- a record; the layout of its data; and the layout of all that follows its owner
 abbrev pub shown : DomainName → ℕ → ℕ → Octets → ResourceRecord
 shown owner rtype ttl rdata = record { owner = owner; ttl = ttl; rtype = rtype; rdata = rdata }

@@ -1,6 +1,6 @@
-use Rattle.dns_tools.proofs.Common.{false, Ok, inl, refl, PrintsOctets, IsFaultReport}
+use Rattle.dns_tools.proofs.Common.{false, Ok, inl, refl, PrintsOctets}
 use Rattle.dns_tools.proofs.CheckedZone.{report_begun}
-use Rattle.dns_tools.proofs.PrintedLines.{fault_reported}
+use Rattle.dns_tools.proofs.PrintedLines.{fault_reported, IsFaultReport}
 use Rattle.dns_tools.proofs.message.print_octets.Goals as goal
 
 pub returns-in_err-write_message-in-Ok-clause-printed :

@@ -1,7 +1,7 @@
-use Rattle.dns_wire.proofs.Common.{ℕ, List, arith, ◌≡◌, nil_from_length, Octets, fields_in, AreFieldsRead, data_read}
+use Rattle.dns_wire.proofs.Common.{ℕ, List, arith, ◌≡◌, nil_from_length, Octets, fields_in, data_read}
 use Rattle.dns_spec.specs.Data as Data
 use Rattle.dns_rdata.specs.declared.table.Field.{Field}
-use Rattle.dns_wire.proofs.FieldLemmas.{field_more, fields_end, field_fault_of_all, end_fault_of_all}
+use Rattle.dns_wire.proofs.FieldLemmas.{field_more, fields_end, field_fault_of_all, end_fault_of_all, AreFieldsRead}
 use Rattle.dns_wire.proofs.ValidData.{data_valid}
 use Rattle.dns_wire.proofs.data.read_data.Goals as goal
 

@@ -1,4 +1,5 @@
-use Rattle.dns_wire.proofs.Common.{length, fields_in, AreFieldsRead, data_fields}
+use Rattle.dns_wire.proofs.Common.{length, fields_in, data_fields}
+use Rattle.dns_wire.proofs.FieldLemmas.{AreFieldsRead}
 use Rattle.dns_wire.proofs.data.read_data.Given as goal
 
 abbrev pub invariant-fields : goal.invariant-fields

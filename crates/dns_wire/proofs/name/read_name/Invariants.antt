@@ -1,4 +1,5 @@
-use Rattle.dns_wire.proofs.Common.{◌≤◌, length, ◌+◌, ◌-◌, ◌*◌, IsReading}
+use Rattle.dns_wire.proofs.Common.{◌≤◌, length, ◌+◌, ◌-◌, ◌*◌}
+use Rattle.dns_wire.proofs.Runs.{IsReading}
 use Rattle.dns_wire.proofs.name.read_name.Given as goal
 
 abbrev pub invariant-steps : goal.invariant-steps

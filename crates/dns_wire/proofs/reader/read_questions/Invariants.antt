@@ -1,6 +1,6 @@
-use Rattle.dns_wire.proofs.Common.{◌≤◌, ◌-◌, length, AreRead, message_question_at}
+use Rattle.dns_wire.proofs.Common.{◌≤◌, ◌-◌, length, message_question_at}
+use Rattle.dns_wire.proofs.ReadLemmas.{AreRead, KeepsFault}
 use Rattle.dns_spec.specs.MessageFaults.{QuestionFault}
-use Rattle.dns_wire.specs.Read.{KeepsFault}
 use Rattle.dns_wire.proofs.reader.read_questions.Given as goal
 
 abbrev pub invariant-questions : goal.invariant-questions

@@ -1,6 +1,6 @@
-use Rattle.dns_wire.proofs.Common.{◌≤◌, ◌-◌, length, AreRead, message_record_at}
+use Rattle.dns_wire.proofs.Common.{◌≤◌, ◌-◌, length, message_record_at}
+use Rattle.dns_wire.proofs.ReadLemmas.{AreRead, KeepsFault}
 use Rattle.dns_spec.specs.MessageFaults.{RecordFault}
-use Rattle.dns_wire.specs.Read.{KeepsFault}
 use Rattle.dns_wire.proofs.reader.read_records.Given as goal
 
 abbrev pub invariant-records : goal.invariant-records

@@ -1,7 +1,7 @@
-use Rattle.dns_wire.proofs.Common.{true, ℕ, ◌≡◌, ◌+◌, ◌-◌, ◌≤◌, ◌∙◌, refl, sym, ap, ap₂, subst, subst₂, arith, length, take, drop, ◌++◌, append-nil, length-append, Octets, octets16, refill, take_at, drop-drop, length-take, length-drop, length-record_tail, Draft, Writes, octets_laid, both_laid, parts_laid, tail_laid, shown}
+use Rattle.dns_wire.proofs.Common.{true, ℕ, ◌≡◌, ◌+◌, ◌-◌, ◌≤◌, ◌∙◌, refl, sym, ap, ap₂, subst, subst₂, arith, length, take, drop, ◌++◌, append-nil, length-append, Octets, octets16, refill, take_at, drop-drop, length-take, length-drop, length-record_tail, Draft, Writes, octets_laid, parts_laid, tail_laid, shown}
 use Rattle.dns_wire.proofs.AskedLemmas.{is_asked_same}
 use Rattle.dns_wire.proofs.DataWritten.{tail_written}
-use Rattle.dns_wire.proofs.Steps.{kept_with, writes_both, writes_past}
+use Rattle.dns_wire.proofs.Steps.{kept_with, writes_both, writes_past, both_laid}
 use Rattle.dns_spec.proofs.General.Fronts.{take_patched}
 use Rattle.dns_wire.proofs.page.Page.put_shared_tail.Goals as goal
 use Rattle.dns_wire.proofs.page.Page.put_shared_tail.Given as given
