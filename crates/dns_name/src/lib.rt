@@ -17,6 +17,6 @@ pub use buffer::TextBuffer;
 pub use label::Label;
 pub use lent::{Labels, NameRef, first_label};
 pub use name::Name;
-pub use octets::{are_equal, begins_with};
+pub use octets::{are_equal, begins_with, ends_with};
 pub use tally::{SinkFailed, SourceFailed, Tally};
 pub use text::{NameFault, first_digit, first_octet};

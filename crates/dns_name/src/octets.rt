@@ -1,5 +1,6 @@
 //! Comparison of runs of octets.
-ghost use Rattle.std.specs.Prelude.{◌≡◌, ◌↔◌, ◌<◌, ◌≤◌, ◌==◌, length, take, IsTrue};
+ghost use Rattle.std.specs.Prelude.{◌≡◌, ◌↔◌, ◌-◌, ◌<◌, ◌≤◌, ◌==◌, ◌++◌, length, take, drop, false, IsTrue};
+ghost use Rattle.dns_spec.specs.Names.{Octets};
 ghost use Rattle.std.specs.List.{starts_with};
 ghost use Rattle.std.specs.Int.{from_le_bytes, w16, w32, w64};
 
@@ -27,6 +28,18 @@ pub fn begins_with(octets: &[u8], front: &[u8]) -> bool
     ensures { result ≡ starts_with ◌==◌ octets.now front.now }
 {
     octets.len() >= front.len() && are_equal(octets.split_at(front.len()).0, front)
+}
+
+/// Whether a run of octets ends with another run.
+pub fn ends_with(octets: &[u8], end: &[u8]) -> bool
+    ensures yes { IsTrue result → (length end.now ≤ length octets.now)
+        × (drop (length octets.now - length end.now) octets.now ≡ end.now) }
+    ensures no { result ≡ false → (front : Octets) → octets.now ≡ front ++ end.now → ⊥ }
+{
+    let Some(start) = octets.len().checked_sub(end.len()) else {
+        return false;
+    };
+    are_equal(octets.split_at(start).1, end)
 }
 
 // Whether two runs of equally many octets, fewer than 8 or more than 16, are equal.

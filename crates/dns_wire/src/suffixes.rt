@@ -10,7 +10,7 @@ ghost use Rattle.dns_wire.specs.SuffixNumbers.{suffix_number};
 use crate::message::HEADER_OCTETS;
 use crate::places::{Places, SuffixHash};
 use crate::suffix_number::number_of;
-use dns_name::are_equal;
+use dns_name::ends_with;
 
 // The last place that the 14 bits of a pointer reach.
 pub(crate) const LAST_PLACE: usize = 16383;
@@ -115,7 +115,7 @@ fn has_last_labels(name: &[u8], suffix: &[u8]) -> bool
     ensures no { result ≡ false → (n front t : DomainName) (l : Octets) → name.now ≡ wire n
         → IsTrue (is_name n) → n ≡ front ++ l ∷ t → wire (l ∷ t) ≡ suffix.now → ⊥ }
 {
-    if !has_end(name, suffix) {
+    if !ends_with(name, suffix) {
         return false;
     }
     let mut rest = name;
@@ -126,20 +126,6 @@ fn has_last_labels(name: &[u8], suffix: &[u8]) -> bool
         rest = after;
     }
     rest.len() == suffix.len()
-}
-
-// Whether `octets` ends with `end`. If not, the caller need not walk the labels of the name, which
-// may be 127 for each suffix that is sought.
-fn has_end(octets: &[u8], end: &[u8]) -> bool
-    ensures yes { IsTrue result → (length end.now ≤ length octets.now)
-        × (drop (length octets.now - length end.now) octets.now ≡ end.now) }
-    ensures no { result ≡ false → (front : Octets) → octets.now ≡ front ++ end.now → ⊥ }
-{
-    let Some(start) = octets.len().checked_sub(end.len()) else {
-        return false;
-    };
-    let (_, last) = octets.split_at(start);
-    are_equal(last, end)
 }
 
 /// Adds to `places` the places of a name's suffixes. The name is laid out at place `at`. Only

@@ -4,7 +4,7 @@ ghost use Rattle.std.specs.Bool.{OnFalse};
 ghost use Rattle.dns_spec.specs.Names.{folded, at_or_below};
 ghost use Rattle.dns_zone.specs.NameEnd.{ending};
 
-use dns_name::{NameRef, are_equal};
+use dns_name::{NameRef, ends_with};
 
 pub(crate) fn is_at_or_below(name: &NameRef<'_>, other: &NameRef<'_>) -> bool
     requires name { folded name.now ≡ name.now }
@@ -21,11 +21,7 @@ pub(crate) fn ends_alike(name: &NameRef<'_>, other: &NameRef<'_>) -> bool
     requires other { folded other.now ≡ other.now }
     ensures { OnFalse result (at_or_below name.now other.now ≡ false) }
 {
-    let (octets, end) = (name.octets(), other.octets());
-    if octets.len() < end.len() {
-        return false;
-    }
-    are_equal(octets.split_at(octets.len() - end.len()).1, end)
+    ends_with(name.octets(), other.octets())
 }
 
 /// The shortest suffix of a name that has at least `least` octets on the wire, or the whole name if

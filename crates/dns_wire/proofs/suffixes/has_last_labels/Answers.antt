@@ -8,10 +8,10 @@ labels-preserved c =
     let a = c.in-Some.ensures.some in
     last_label _ c.labels.invariant a c.labels-test.true
 
-pub returns-then-not-has_end-clause-no : goal.returns-then-not-has_end-clause-no
-returns-then-not-has_end-clause-no c = λ _ n front t l e ok whole is.
+pub returns-then-not-ends_with-clause-no : goal.returns-then-not-ends_with-clause-no
+returns-then-not-ends_with-clause-no c = λ _ n front t l e ok whole is.
     let x = wire_split front (l ∷ t) in
-    c.has_end.ensures.no c.if-not-has_end.true x.0 (e ∙ ap wire whole ∙ x.1 ∙ ap (λ z. x.0 ++ z) is)
+    c.ends_with.ensures.no c.if-not-ends_with.true x.0 (e ∙ ap wire whole ∙ x.1 ∙ ap (λ z. x.0 ++ z) is)
 
 pub returns-clause-no : goal.returns-clause-no
 returns-clause-no c = λ no n front t l e ok whole is.

@@ -1,16 +1,18 @@
-use Rattle.dns_zone.proofs.Common.{rules, length, ap, arith, false≢true, false_from_ne_true}
+use Rattle.dns_zone.proofs.Common.{◌≡◌, ◌-◌, ◌++◌, Bool, true, false, length, take, drop, false_from_ne_true, refl, sym, ap, ◌∙◌, take-append-drop, wire}
+use Rattle.std.specs.Bool.{OnFalse}
 use Rattle.dns_zone.proofs.EndingNames.{ends_in}
 use Rattle.dns_zone.proofs.order.above.ends_alike.Goals as goal
 
-pub returns-then-octets-end : goal.returns-then-octets-end
-returns-then-octets-end c =
-    false_from_ne_true _ (λ h. absurd (omega (
-      arith,
-      c.if-octets-end.true,
-      ap length c.octets-octets.ensures.value,
-      ap length c.octets-end.ensures.value,
-      (ends_in _ _ c.requires.name c.requires.other h).0,
-    )))
+on_false : (b : Bool) (P : Type 0) → (b ≡ false → P) → OnFalse b P
+on_false true P f = tt
+on_false false P f = f refl
 
 pub returns : goal.returns
-returns c = search (rules, false_from_ne_true, false≢true, ends_in)
+returns c = on_false c.ends_with.result _ (λ no. false_from_ne_true _ (λ h.
+    let name = c.args.name.now in
+    let other = c.args.other.now in
+    let end = ends_in name other c.requires.name c.requires.other h in
+    let front = take (length (wire name) - length (wire other)) (wire name) in
+    c.ends_with.ensures.no no front (c.octets.ensures.value
+    ∙ sym (take-append-drop _ (wire name))
+    ∙ ap (λ e. front ++ e) (end.1 ∙ sym c.octets-2.ensures.value))))
