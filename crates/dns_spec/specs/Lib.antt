@@ -1,4 +1,5 @@
 -- The definitions of the product, to be read from the first file to the last.
+pub mod Lists
 pub mod Names
 pub mod NameText
 pub mod Data

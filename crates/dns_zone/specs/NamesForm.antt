@@ -12,7 +12,7 @@ use Rattle.dns_zone.specs.KeyForm.{name_key}
 use Rattle.dns_zone.specs.OwnerForm.{IsOwner}
 use Rattle.dns_zone.specs.ReportedForm.{owners_once}
 use Rattle.dns_zone.specs.declared.names.CheckedName.{CheckedName}
-use Rattle.dns_spec.proofs.General.Elements.{Among}
+use Rattle.dns_spec.specs.Lists.{Among}
 
 -- the records of a checked name, and the name: their owner, or the origin if there are no records
 abbrev pub own_in : List ResourceRecord → CheckedName → List ResourceRecord

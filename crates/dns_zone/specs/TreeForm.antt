@@ -7,8 +7,7 @@ use Rattle.dns_spec.specs.Records.{ResourceRecord}
 use Rattle.dns_name.specs.WireForm.{labels_of}
 use Rattle.dns_zone.specs.LabelKey.{IsKey}
 use Rattle.dns_zone.specs.declared.tree.row.Row.{Row}
-use Rattle.dns_spec.proofs.General.Elements.{Among}
-use Rattle.dns_spec.proofs.General.Sorted.{Rises}
+use Rattle.dns_spec.specs.Lists.{Among, Rises}
 
 -- the elements from index a to before index b
 abbrev pub span : {X : Type 0} → List X → ℕ → ℕ → List X

@@ -1,5 +1,6 @@
 -- What holds for each element of a list, and membership in lists.
 use mathlib.Core.List.{reverse_aux}
+pub use Rattle.dns_spec.specs.Lists.{Among}
 use Rattle.dns_spec.proofs.Common.{All, List, [], ap, arith, drop, get_or, inl, inr, length, map, refl, subst, suc, sym, take, zero, ℕ, ◌++◌, ◌<◌, ◌∷◌, ◌≡◌, ◌⊎◌, AllByRecursion, Contains, flat_map, IsPermutation, get_or_default, flat_map-cons, All-contains, Contains-permutation, All-from_recursion, get_or-take, length-take, take-append-drop, ◌≤◌, map_push, reverse, reverse-append, ◌∙◌}
 
 -- `AllByRecursion P` is a proof of P for each element: the trivial P, and a P that always holds
@@ -101,10 +102,6 @@ pub each_from_get : {X : Type 0} (P : X → Type 0) (xs : List X)
 each_from_get P [] h = tt
 each_from_get P (x ∷ xs) h =
     (h 0 x (omega arith), each_from_get P xs (λ k d l. h (suc k) d (omega arith)))
-
-abbrev pub Among : {X : Type 0} → X → List X → Type 0
-Among x [] = ⊥
-Among x (y ∷ ys) = (x ≡ y) ⊎ Among x ys
 
 pub each_at : {X : Type 0} (P : X → Type 0) (a : X) (xs : List X) → AllByRecursion P xs → Among a xs
     → P a

@@ -1,4 +1,5 @@
 -- A sorted list without duplicates depends only on its set of elements.
+pub use Rattle.dns_spec.specs.Lists.{Rises}
 use Rattle.dns_spec.proofs.Common.{Bool, Equal, Greater, Less, List, Ordering, [], ap, ap₂, arith, cond, false, filter, inl, inr, is_gt, is_lt, length, map, not, refl, subst, suc, sym, true, ◌&&◌, ◌++◌, ◌∙◌, ◌∷◌, ◌≡◌, ◌≤◌, ◌⊎◌, IsTotalOrder, AllByRecursion, list_all, IsPermutation, IsStrictlySortedBy, ordering_reverse, and_parts, false≢true, not-true, tied_itself, IsPermutation-cons, IsPermutation-middle, IsPermutation-refl, IsPermutation-sym, IsPermutation-trans, distinct, insert_by, sort_by}
 use Rattle.dns_spec.proofs.General.Elements.{Among, each_at, each_weaker}
 use Rattle.dns_spec.proofs.General.Filters.{each_filter, filter_each, filter_short, among_filter, filter_among}
@@ -68,11 +69,6 @@ module _ {X : Type 0} (cmp : X → X → Ordering) where
   pub length-sort_by : (xs : List X) → length (sort_by cmp xs) ≡ length xs
   length-sort_by [] = refl
   length-sort_by (x ∷ xs) = length-insert x (sort_by cmp xs) ∙ ap suc (length-sort_by xs)
-
-  -- each element is before those after it
-  abbrev pub Rises : List X → Type 0
-  Rises [] = Unit {0}
-  Rises (x ∷ xs) = AllByRecursion (λ y. cmp x y ≡ Less) xs × Rises xs
 
 turned : (c : Ordering) → ordering_reverse c ≡ Greater → c ≡ Less
 turned c h = grind arith
