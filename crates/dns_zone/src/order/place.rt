@@ -70,6 +70,9 @@ fn padded(octets: &[u8]) -> [u8; 8]
     eight
 }
 
+// The most places past which a place is moved back at once.
+const NEAR: usize = 8;
+
 /// The canonical order of the records at places.
 #[derive(Drop)]
 pub(crate) struct Order<'a> {
@@ -98,24 +101,55 @@ impl<'a> Order<'a> {
         Ok(())
     }
 
-    // Moves places that are in order to the beginning of the list, and returns how many they are. A
-    // place that sorts before the last of them, but not before the second last, replaces the last.
+    // Moves places that are in order to the beginning of the list, and returns how many they are.
+    // A place that sorts before the last of them is moved back if it is near. Otherwise, if it sorts
+    // after the second last, it replaces the last.
     fn keep_rising(&self, places: &mut Vec<Place>) -> usize
         ensures moved { IsPermutation places.old.items places.new.items }
         ensures count { result ≤ length places.new.items }
     {
         let mut kept = 0;
         'places: for at in 0..places.len() {
-            if kept > 0 && self.compare(&places[at], &places[kept - 1]).is_lt() {
-                if kept < 2 || self.compare(&places[at], &places[kept - 2]).is_lt() {
-                    continue;
-                }
+            if kept == 0 || self.compare(&places[at], &places[kept - 1]).is_ge() {
+                places.swap(kept, at);
+            } else if self.is_near(places.as_slice(), kept, at) {
+                places.swap(kept, at);
+                self.move_back(places, kept);
+            } else if kept > 1 && self.compare(&places[at], &places[kept - 2]).is_ge() {
                 kept -= 1;
+                places.swap(kept, at);
+            } else {
+                continue;
             }
-            places.swap(kept, at);
             kept += 1;
         }
         kept
+    }
+
+    // Whether a place is of the same owner as the last of the first `kept` places, and sorts after
+    // all but the last eight of them. Many files have the records of an owner in no order.
+    fn is_near(&self, places: &[Place], kept: usize, at: usize) -> bool
+        requires some { 0 < kept }
+        requires kept { kept ≤ length places.now }
+        requires at { at < length places.now }
+    {
+        let place = &places[at];
+        place.start == places[kept - 1].start
+            && (kept <= NEAR || self.compare(place, &places[kept - 1 - NEAR]).is_ge())
+    }
+
+    // Moves the place at index `from` back, past those before it that it sorts before.
+    fn move_back(&self, places: &mut Vec<Place>, from: usize)
+        requires { from < length places.old.items }
+        ensures moved { IsPermutation places.old.items places.new.items }
+        ensures count { length places.new.items ≡ length places.old.items }
+    {
+        'back: for to in (1..from + 1).rev() {
+            if self.compare(&places[to], &places[to - 1]).is_ge() {
+                break;
+            }
+            places.swap(to, to - 1);
+        }
     }
 
     /// Compares the records at two places. The numbers decide for most owners.
