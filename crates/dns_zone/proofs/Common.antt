@@ -1,5 +1,5 @@
 -- Re-exports the names that most proofs use. Declares nothing.
-pub use Rattle.dns_spec.proofs.Common.{All, All-cons, All-from_recursion, All-head, All-nil, All-tail, All-weaker, AllByRecursion, Bool, Bor, Check, DomainName, Equal, Fault, Greater, HasZoneType, IfSome, IsNonDecreasingBy, IsPartitionPoint-from_clause, IsPartitionedBy, IsPermutation, IsPermutation-sym, IsPermutation-trans, IsReadRecord, IsTotalOrder, Less, List, Means, None, Octets, Option, Ordering, Part, RecordSet, ResourceRecord, Some, Valid, ZoneContents, [], add-one, agree_below_at, and_from, and_parts, and_right, ap, append-nil, append_assoc, ap₂, arith, at, at_or_below, at_or_below_cut, below, cases_lt, cases_order, checked_names, checks, codes, cond, cut_of, data_order, decimal, distinct, drop, drop-append_seam, drop-cons, drop-drop, drop_all, drop_at, drop_more, end_rest, eq-eqb, eqb, eqb-false, eqb-true, exists, false, false_from_ne_true, false≢true, filter, filter-append, find, first_name, first_serial, flat_map, flat_map-append, flat_map-cons, folded, get_or, get_or-drop, get_or-map, get_or-set_other, get_or-set_same, get_or-take, get_or_append_left, get_or_default, get_or_default_zero, get_or_push, if◌then◌else◌, inl, inr, insert_by, is_cut, is_eq, is_gt, is_lt, is_name, is_owner, is_soa, is_some, label_order, large_set, last_labels, le-leb, le-ltb, leb-true, length, length-append, length-drop, length-filter_both, length-map, length-set, length-take, length_permutation, list_all, list_any, list_any-append, lists_ties, lower_case, lt-ltb, ltb-false, ltb-true, many_sets, map, map-append, map_push, min-eq_left, most_octets, most_records, name, name_order, name_text, names_equal, nat_cmp, nat_cmp_is, nat_cmp_total, nat_eq, nat_le, nat_list_cmp_total, nat_lt, ne_eqb, nil_from_length, none-some, not, not-true, octets, octets_equal, of_first_type, of_lowest_type, on_total, option_or, or-false, or_cases, or_left, or_parts, or_right, ordering_reverse, ordering_then, owns, part_folded, parts, prefix_len, prefix_len-le-length, printed_records, record_line, record_order, records, records_at, records_equal, recursion_from_All, refl, reverse, reverse-append, reverse-reverse, rising_types, rrset, rules, same, same_Some, set, set_of, slice_cmp, slice_get, soa_first, sort_by, starts_with, subst, suc, suffixes, sym, take, take-add, take-append-drop, take-append-le, take-append_seam, take-length, take_all, take_at, take_rest, target, tied_itself, to_ascii_lowercase, true, true≢false, ttls_differ, type_cname, type_ns, type_soa, type_text, upto, valid, vec_len, wire, zero, zone_of, zone_serial, ℕ, ◌&&◌, ◌*◌, ◌++◌, ◌+◌, ◌-◌, ◌/◌, ◌<◌, ◌==◌, ◌^◌, ◌||◌, ◌∙◌, ◌∷◌, ◌≡◌, ◌≤◌, ◌⊎◌}
+pub use Rattle.dns_spec.proofs.Common.{All, All-cons, All-from_recursion, All-head, All-nil, All-weaker, AllByRecursion, Bool, Bor, Check, DomainName, Equal, Fault, Greater, HasZoneType, IfSome, IsNonDecreasingBy, IsPartitionPoint-from_clause, IsPartitionedBy, IsPermutation, IsPermutation-trans, IsReadRecord, IsTotalOrder, Less, List, Means, None, Octets, Option, Ordering, Part, RecordSet, ResourceRecord, Some, Valid, ZoneContents, [], add-one, agree_below_at, and_from, and_parts, and_right, ap, append-nil, append_assoc, ap₂, arith, at, at_or_below, at_or_below_cut, below, cases_lt, cases_order, checked_names, checks, codes, cond, cut_of, data_order, decimal, distinct, drop, drop-append_seam, drop-cons, drop-drop, drop_all, drop_at, drop_more, end_rest, eq-eqb, eqb, eqb-false, eqb-true, exists, false, false_from_ne_true, false≢true, filter, filter-append, find, first_name, first_serial, flat_map, flat_map-append, flat_map-cons, folded, get_or, get_or-drop, get_or-map, get_or-set_other, get_or-set_same, get_or-take, get_or_append_left, get_or_default, get_or_default_zero, get_or_push, if◌then◌else◌, inl, inr, insert_by, is_cut, is_eq, is_gt, is_lt, is_name, is_owner, is_soa, is_some, label_order, large_set, last_labels, le-leb, le-ltb, leb-true, length, length-append, length-drop, length-filter_both, length-map, length-set, length-take, length_permutation, list_all, list_any, list_any-append, lists_ties, lower_case, lt-ltb, ltb-false, ltb-true, many_sets, map, map-append, map_push, min-eq_left, most_octets, most_records, name, name_order, name_text, names_equal, nat_cmp, nat_cmp_is, nat_cmp_total, nat_eq, nat_le, nat_list_cmp_total, nat_lt, ne_eqb, nil_from_length, none-some, not, not-true, octets, octets_equal, of_first_type, of_lowest_type, on_total, option_or, or-false, or_cases, or_left, or_parts, or_right, ordering_reverse, ordering_then, owns, part_folded, parts, prefix_len, prefix_len-le-length, printed_records, record_line, record_order, records, records_at, records_equal, recursion_from_All, refl, reverse, reverse-append, reverse-reverse, rising_types, rrset, rules, same, same_Some, set, set_of, slice_cmp, slice_get, soa_first, sort_by, starts_with, subst, suc, suffixes, sym, take, take-add, take-append-drop, take-append-le, take-append_seam, take-length, take_all, take_at, take_rest, target, tied_itself, to_ascii_lowercase, true, true≢false, ttls_differ, type_cname, type_ns, type_soa, type_text, upto, valid, vec_len, wire, zero, zone_of, zone_serial, ℕ, ◌&&◌, ◌*◌, ◌++◌, ◌+◌, ◌-◌, ◌/◌, ◌<◌, ◌==◌, ◌^◌, ◌||◌, ◌∙◌, ◌∷◌, ◌≡◌, ◌≤◌, ◌⊎◌}
 unfoldable pub use Rattle.dns_spec.proofs.Common.{data_text, faults, zone_text}
 pub use Rattle.std.proofs.Common.{Global, Vec}
 pub use Rattle.std.specs.List.{SwappedAt, zip}
@@ -10,7 +10,7 @@ pub use Rattle.std.proofs.Math.Seq.{get_or-append_seam}
 pub use Rattle.std.proofs.lemmas.Cmp.{alike_right, then_total, tied_back}
 pub use Rattle.std.proofs.lemmas.Fn.{always_returns_same}
 pub use Rattle.std.proofs.lemmas.List.{drop-append-le, drop-map, flat_map_more}
-pub use Rattle.std.proofs.lemmas.List.Elements.{All-more, All-push, All-set}
+pub use Rattle.std.proofs.lemmas.List.Elements.{All-more, All-push}
 pub use Rattle.std.proofs.lemmas.List.Folds.{find-append}
 pub use Rattle.std.proofs.lemmas.List.Sorted.{IsPartitionedBy-ltb, ranks_by}
 pub use Rattle.std.proofs.lemmas.Str.Ascii.{lowercase_is}
@@ -56,7 +56,7 @@ pub use Rattle.dns_zone.specs.declared.order.place.Place.{Place}
 pub use Rattle.dns_zone.specs.declared.tree.Tree.{Tree}
 pub use Rattle.dns_zone.specs.declared.tree.lower_case.TheConstants.{LOWER_CASE}
 pub use Rattle.dns_zone.specs.declared.tree.row.Row.{Row}
-pub use Rattle.dns_spec.proofs.General.Elements.{Among, among_contains, among_permutation, contains_among, each_among, each_at, each_weaker}
+pub use Rattle.dns_spec.proofs.General.Elements.{Among, among_contains, contains_among, each_among, each_at, each_weaker}
 pub use Rattle.dns_spec.proofs.General.Filters.{each_filter, filter_among, filter_each, filter_test}
 pub use Rattle.dns_spec.proofs.General.Sorted.{Rises, among_distinct, among_sort, apart_distinct, distinct_among, each_distinct, each_sort, length-sort_by, same_risen, sort_among, sort_risen, sort_rises}
 pub use Rattle.dns_spec.proofs.General.Results.{OnErr-always}

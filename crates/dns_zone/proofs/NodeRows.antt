@@ -65,9 +65,6 @@ module _ (t : Tree) (k : ℕ) (at : IsZoneNode t k) where
     pub row_of_kid : row_at t.rows (start + i) ≡ row_at kids i
     row_of_kid = grind (arith, size, get_or-take, get_or-drop)
 
-    pub kid_in : start + i < length t.rows
-    kid_in = grind (arith, size)
-
     the_kid : IsKid rs name (row_at kids i)
     the_kid = each_get (IsKid rs name) kids i _ are_kids.each fits
 
@@ -81,6 +78,3 @@ module _ (t : Tree) (k : ℕ) (at : IsZoneNode t k) where
         let whole = row_is rs (row_at kids i) (the_kid.label ∷ name) the_kid.is_row in
         subst (λ (l : Octets). exists t.zone (l ∷ name) ≡ true) (sym (ap first_of whole))
         (row_exists rs (row_at kids i) (the_kid.label ∷ name) the_kid.is_row)
-
-    pub kid_at : IsZoneNode t (start + i)
-    kid_at = record { kept = at.kept; row = kid_in }

@@ -1,5 +1,5 @@
 -- The keys of owners, in one shared list of octets.
-use Rattle.dns_zone.proofs.Common.{◌≡◌, ℕ, ◌+◌, sym, ◌∙◌, get_or-drop, ◌-◌, ◌<◌, ◌≤◌, List, [], ◌∷◌, ◌++◌, length, take, drop, get_or, ap, arith, length-take, length-drop, subst, cases_lt, cases_order, Octets, DomainName, wire, ResourceRecord, All, IsPermutation, take-append-le, drop-append-le, drop-append_seam, take-length, SwappedAt, name_key, key_in, AreKeyed}
+use Rattle.dns_zone.proofs.Common.{◌≡◌, ℕ, ◌+◌, sym, ◌∙◌, get_or-drop, ◌-◌, ◌<◌, ◌≤◌, List, [], ◌∷◌, ◌++◌, length, take, drop, get_or, ap, arith, length-take, length-drop, subst, cases_lt, Octets, DomainName, wire, ResourceRecord, take-append-le, drop-append-le, drop-append_seam, take-length, name_key, key_in, AreKeyed}
 use Rattle.dns_zone.proofs.KeyOrder.{key_length}
 
 -- the key of a name stays where it is when octets are added after it
@@ -25,22 +25,6 @@ module _ (keys more : Octets) (n : DomainName) where
 
   pub key_added : key_in (keys ++ name_key n) (length keys) n ≡ name_key n
   key_added = grind (arith, drop-append_seam, key_octets, take-length)
-
--- swapping two records and their starts keeps each key with its record
-module _ (keys : Octets) (rs ss : List ResourceRecord) (xs ys : List ℕ) (a b : ℕ) where
-  pub keyed_swapped : a < length rs → b < length rs → AreKeyed keys rs xs → SwappedAt rs ss a b
-      → SwappedAt xs ys a b → length ss ≡ length rs → length ys ≡ length xs → AreKeyed keys ss ys
-  keyed_swapped p q h s t m n = grind (arith, cases_order)
-
--- the records rs are `before`, only moved, with the starts of their keys; all `places` are indexes
--- of records
-pub record Moved (keys : Octets) (before rs : List ResourceRecord)
-    (starts places : List ℕ) : Type 0 where
-  pub permutation : IsPermutation before rs
-  pub keyed : AreKeyed keys rs starts
-  pub size : length rs ≡ length before
-  pub below : All (λ p. p < length before) places
-  pub count : length places ≡ length before
 
 -- the first of the records from index k on
 first_at : (rs : List ResourceRecord) (k : ℕ) (r d : ResourceRecord) (ts : List ResourceRecord)

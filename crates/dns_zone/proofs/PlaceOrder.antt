@@ -77,14 +77,6 @@ alike f g i j c l m =
 either : (a b : ℕ) → (a ≡ b) ⊎ (a ≡ b → ⊥)
 either a b = grind (arith, inl, inr, cases_order)
 
--- places whose numbers are equal
-pub by_keys : (keys : Octets) (rs : List ResourceRecord) (first : ResourceRecord) (p q : Place)
-    (c : Ordering) → p.front ≡ q.front → p.next ≡ q.next
-    → c ≡ ordering_then
-    (slice_cmp nat_cmp (place_key keys rs first p) (place_key keys rs first q))
-    (own_order (placed rs first p) (placed rs first q)) → c ≡ place_order keys rs first p q
-by_keys keys rs first p q c e f g = g ∙ sym (alike p.front q.front p.next q.next _ e f)
-
 -- places that share a key
 pub shared_key : (keys : Octets) (rs : List ResourceRecord) (first : ResourceRecord) (p q : Place)
     → p.start ≡ q.start
