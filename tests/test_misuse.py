@@ -105,11 +105,9 @@ def test_a_device_is_not_used_again_after_it_has_failed(programs, tmp_path, opti
 # reaches) that ends with an expression. A walk is not cloned or copied; neither a walk nor a node gives a zone, which
 # would allow a second walk; neither can be constructed; and no count can be reset. `within`: expressions that are
 # refused as `private-field` even in dns_zone, each with its file and the line before which it is put. Neither a walk
-# nor a node reaches an allocator; the search for a child reaches no row, record or key of the tree, and makes or
-# resets no count. `open`: expressions in `Node::down` that should be refused so, but compile, since the fields of a
-# tree are open to all of dns_zone. `bodies`: see below.
+# nor a node reaches an allocator; the search for a child reaches no row, record or key of the tree, neither from the
+# node nor from the walk, and makes or resets no count. `bodies`: see below.
 MISUSE = json.loads((DATA / "misuse.json").read_text())
-OPEN = pytest.mark.xfail(strict=True, reason="the rows of a tree are open to all of dns_zone")
 
 
 @pytest.fixture(scope="module")
@@ -148,8 +146,7 @@ def test_misuse_of_a_walk(zone_library, error, expression):
 
 
 @needs_rt
-@pytest.mark.parametrize("file, expression, line", [
-    *MISUSE["within"], *(pytest.param(*row, marks=OPEN) for row in MISUSE["open"])])
+@pytest.mark.parametrize("file, expression, line", MISUSE["within"])
 def test_misuse_of_a_tree(zone_library, file, expression, line):
     source = zone_library / "dns_zone" / "src" / "tree" / file
     text = source.read_text()

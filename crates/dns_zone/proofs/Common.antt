@@ -53,9 +53,9 @@ pub use Rattle.dns_zone.specs.TreeSteps.{AddsKids}
 pub use Rattle.dns_zone.specs.ZoneForm.{AreOrdered, IsBuilt, IsCanonical, IsFront, is_chosen}
 pub use Rattle.dns_zone.specs.declared.names.CheckedName.{CheckedName}
 pub use Rattle.dns_zone.specs.declared.order.place.Place.{Place}
-pub use Rattle.dns_zone.specs.declared.tree.Tree.{Tree}
 pub use Rattle.dns_zone.specs.declared.tree.lower_case.TheConstants.{LOWER_CASE}
 pub use Rattle.dns_zone.specs.declared.tree.row.Row.{Row}
+pub use Rattle.dns_zone.specs.declared.tree.zone_tree.Tree.{Tree}
 pub use Rattle.dns_spec.proofs.General.Elements.{Among, among_contains, contains_among, each_among, each_at, each_weaker}
 pub use Rattle.dns_spec.proofs.General.Filters.{each_filter, filter_among, filter_each, filter_test}
 pub use Rattle.dns_spec.proofs.General.Sorted.{Rises, among_distinct, among_sort, apart_distinct, distinct_among, each_distinct, each_sort, length-sort_by, same_risen, sort_among, sort_risen, sort_rises}

@@ -5,7 +5,7 @@ use Rattle.dns_zone.specs.Nodes.{ZoneNode}
 use Rattle.dns_zone.specs.ZoneForm.{IsBuilt}
 use Rattle.dns_zone.specs.TreeForm.{IsTree, kids_at, row_name, row_label, row_at}
 use Rattle.dns_zone.specs.declared.tree.row.Row.{Row}
-use Rattle.dns_zone.specs.declared.tree.Tree.{Tree}
+use Rattle.dns_zone.specs.declared.tree.zone_tree.Tree.{Tree}
 
 -- an invariant of a zone's tree
 pub record IsZoneTree (t : Tree) : Type 0 where

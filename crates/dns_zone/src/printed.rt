@@ -45,7 +45,7 @@ pub fn print<W: Write>(zone: &Zone, sink: &mut Tally<W>) -> Result<(), PrintFaul
         → (o : DomainName) → Means o (zone_text zone.now) (records (printed_records zone.now)) }
     ensures same_records { IsPermutation zone.now.records (printed_records zone.now) }
 {
-    zone.tree.zone.print(sink)
+    zone.tree.zone().print(sink)
 }
 
 impl CheckedZone {

@@ -12,6 +12,7 @@ pub(crate) mod search;
 pub(crate) mod set;
 pub(crate) mod sought;
 pub(crate) mod steps;
+pub(crate) mod zone_tree;
 
 ghost use Rattle.std.specs.Prelude.{◌≡◌, ◌<◌, length, IfOk, OnOk};
 ghost use Rattle.dns_name.specs.WireForm.{labels_of, IsWireForm};
@@ -19,7 +20,6 @@ ghost use Rattle.dns_zone.specs.ZoneForm.{IsBuilt, IsCanonical};
 ghost use Rattle.dns_zone.specs.TreeForm.{row_octets, row_name, row_at, IsRow, IsTree};
 ghost use Rattle.dns_zone.specs.TreeSteps.{AddsKids};
 
-use crate::checked::CheckedZone;
 use crate::order::above::shortest_end;
 use crate::shared_slice::SharedSlice;
 use crate::store::stored::StoredRecord;
@@ -27,16 +27,8 @@ use crate::tree::row::Row;
 use dns_name::NameRef;
 use std::alloc::{AllocError, Global};
 
-/// A zone and the tree of its names.
-#[derive(Drop)]
-pub(crate) struct Tree {
-    pub(crate) zone: CheckedZone,
-    pub(crate) rows: SharedSlice<Row>,
-    pub(crate) bounds: SharedSlice<u32>,
-}
-
 /// The rows of all names of a zone, and for each row the row number of its first child. A row's
-/// children end where the next row's children begin. Takes 36 octets of memory for each name.
+/// children end where the next row's children begin.
 pub(crate) fn rows_of(
     alloc: Global,
     origin: &NameRef<'_>,

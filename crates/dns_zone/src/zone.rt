@@ -9,9 +9,8 @@ ghost use Rattle.dns_zone.specs.ZoneForm.{IsBuilt, ReportsFaults};
 use crate::checked::CheckedZone;
 use crate::fault::BuildFault;
 use crate::store::Store;
-use crate::tree::counts::Counts;
 use crate::tree::steps::Steps;
-use crate::tree::{Tree, rows_of};
+use crate::tree::zone_tree::Tree;
 use dns_master::Record;
 use dns_name::Name;
 use std::alloc::{AllocError, Global};
@@ -63,8 +62,7 @@ impl Zone {
     pub fn of(alloc: Global, zone: CheckedZone) -> Result<Zone, AllocError>
         ensures { IfOk result (λ whole. whole ≡ zone) }
     {
-        let (rows, bounds) = rows_of(alloc, &zone.origin().lent(), zone.records())?;
-        let tree = Tree { zone, rows, bounds };
+        let tree = Tree::of(alloc, zone)?;
         Ok(Zone { tree })
     }
 
@@ -74,14 +72,14 @@ impl Zone {
         ensures lower { folded self.now.origin ≡ self.now.origin }
         ensures built { IsBuilt self.now }
     {
-        self.tree.zone.origin()
+        self.tree.zone().origin()
     }
 
     /// The serial number of its SOA (RFC 1035 3.3.13).
     pub fn serial(&self) -> u32
         ensures { result ≡ zone_serial self.now }
     {
-        self.tree.zone.serial()
+        self.tree.zone().serial()
     }
 }
 
@@ -90,9 +88,6 @@ impl<'z> Steps<'z> {
     pub fn new(zone: &'z Zone) -> Steps<'z>
         ensures { result ≡ record { zone = zone.now; visits = 0; comparisons = 0 } }
     {
-        Steps {
-            tree: &zone.tree,
-            counts: Counts::over(&zone.tree),
-        }
+        Steps::over(&zone.tree)
     }
 }

@@ -1,7 +1,7 @@
 //! The counts of a walk.
 ghost use Rattle.std.specs.Prelude.{◌≡◌, ◌+◌, ◌<◌};
 
-use crate::tree::Tree;
+use crate::tree::zone_tree::Tree;
 
 /// How many nodes were visited, and how many labels compared.
 ///

@@ -4,14 +4,15 @@ ghost use Rattle.std.specs.Char.{to_ascii_lowercase};
 ghost use Rattle.dns_spec.specs.Names.{label_order};
 ghost use Rattle.dns_zone.specs.LabelKey.{IsKey};
 ghost use Rattle.dns_zone.specs.TreeForm.{row_label, row_name, IsRow};
-ghost use Rattle.dns_zone.specs.NodeForm.{IsZoneNode, node_at, kid_rows, kid_label};
+ghost use Rattle.dns_zone.specs.NodeForm.{AreKidsAt, IsZoneNode, node_at, kid_rows, kid_label};
 
 use crate::store::stored::StoredRecord;
 use crate::tree::counts::Counts;
 use crate::tree::label_key::{KEY_OCTETS, LabelKey, first_octets, order_to};
 use crate::tree::node::Node;
+use crate::tree::octets_of;
 use crate::tree::row::{Row, RowNumber};
-use crate::tree::{Tree, octets_of};
+use crate::tree::zone_tree::Tree;
 use dns_name::NameRef;
 use std::cmp::Ordering;
 use std::marker::Model;
@@ -37,29 +38,17 @@ impl<'z> Model for Kids<'z> {
         k.rows.now };
 }
 
-impl<'z> Node<'z> {
-    /// The node's children.
-    pub(crate) fn kids(&self) -> Kids<'z>
-        ensures at { IsZoneNode result.tree result.row }
-        ensures node { node_at result.tree result.row ≡ self.now }
-    {
-        Kids::of(self.tree, self.row)
-    }
-}
-
 impl<'z> Kids<'z> {
-    /// The children of the node of a row.
-    pub(crate) fn of(tree: &'z Tree, row: RowNumber) -> Kids<'z>
-        requires { IsZoneNode tree.now row.0 }
-        ensures { result ≡ record { tree = tree.now; row = row.0 } }
+    /// The children of the node of the row `parent`: the rows from number `start` on.
+    pub(crate) fn new(tree: &'z Tree, parent: RowNumber, start: usize, rows: &'z [Row]) -> Kids<'z>
+        requires { AreKidsAt (record { tree = tree.now; row = parent.0 }) start rows.now }
+        ensures { result ≡ record { tree = tree.now; row = parent.0 } }
     {
-        let bounds = tree.bounds.lent();
-        let start = bounds[row.0] as usize;
         Kids {
             tree,
-            parent: row,
+            parent,
             start,
-            rows: &tree.rows.lent()[start..bounds[row.0 + 1] as usize],
+            rows,
         }
     }
 
@@ -86,7 +75,7 @@ impl<'z> Kids<'z> {
         ensures counted { counts.new ≡ record counts.old { comparisons = counts.old.comparisons + 1 } }
     {
         counts.count_comparison();
-        order_of(self.tree.zone.records(), &self.rows[i], key, label)
+        order_of(self.tree.zone().records(), &self.rows[i], key, label)
     }
 
     /// The row of child `i`.
@@ -100,6 +89,7 @@ impl<'z> Kids<'z> {
     {
         RowNumber(self.start + i)
     }
+
     /// Visits the node of a row; the visit is counted.
     pub(crate) fn visit(&self, row: RowNumber, counts: &mut Counts) -> Node<'z>
         requires at { IsZoneNode self.now.tree row.0 }

@@ -13,9 +13,10 @@ ghost use Rattle.dns_zone.specs.TreeForm.{kids_at};
 
 use crate::order::lookup::of_type;
 use crate::store::stored::StoredRecord;
-use crate::tree::row::{Row, RowNumber};
+use crate::tree::kids::Kids;
+use crate::tree::row::RowNumber;
 use crate::tree::set::{RecordSet, lent_set};
-use crate::tree::{Tree, octets_of};
+use crate::tree::zone_tree::Tree;
 use dns_name::NameRef;
 use dns_rdata::RType;
 use std::marker::Model;
@@ -25,8 +26,8 @@ use std::marker::Model;
 /// It borrows from the zone, as do its sets. Nodes come only from a walk, which counts them.
 #[derive(Drop)]
 pub struct Node<'z> {
-    pub(crate) tree: &'z Tree,
-    pub(crate) row: RowNumber,
+    tree: &'z Tree,
+    row: RowNumber,
 }
 
 impl<'z> Model for Node<'z> {
@@ -53,8 +54,7 @@ impl<'z> Node<'z> {
     pub fn name(&self) -> NameRef<'z>
         ensures { result ≡ self.now.name }
     {
-        let row = &self.tree.rows.lent()[self.row.0];
-        NameRef::new(octets_of(self.tree.zone.records(), row))
+        self.tree.name(self.row)
     }
 
     /// The records of a type at the name, in the order of the octets of their data; `None` if the
@@ -88,21 +88,19 @@ impl<'z> Node<'z> {
         self.set(first.rtype)
     }
 
+    /// The node's children.
+    pub(crate) fn kids(&self) -> Kids<'z>
+        ensures at { IsZoneNode result.tree result.row }
+        ensures node { node_at result.tree result.row ≡ self.now }
+    {
+        self.tree.kids(self.row)
+    }
+
     fn own(&self) -> &'z [StoredRecord]
         ensures own { result.now ≡ at self.now.zone self.now.name }
         ensures by_types { IsNonDecreasingBy (λ (r : ResourceRecord). r.rtype) result.now }
         ensures node { IsNode self.now.zone self.now.name }
     {
-        own_of(self.tree, self.row)
+        self.tree.own(self.row)
     }
-}
-
-// The records of a row's name.
-pub(crate) fn own_of(tree: &Tree, row: RowNumber) -> &[StoredRecord]
-    requires { IsZoneNode tree.now row.0 }
-    ensures own { result.now ≡ at tree.now.zone (node_at tree.now row.0).name }
-    ensures by_types { IsNonDecreasingBy (λ (r : ResourceRecord). r.rtype) result.now }
-{
-    let row = &tree.rows.lent()[row.0];
-    &tree.zone.records()[row.first as usize..row.own_end as usize]
 }

@@ -2,12 +2,13 @@
 ghost use Rattle.std.specs.Prelude.{◌≡◌, ◌+◌, ◌<◌};
 ghost use Rattle.dns_spec.specs.Names.{folded};
 ghost use Rattle.dns_zone.specs.Nodes.{IsNode};
+ghost use Rattle.dns_zone.specs.NodeForm.{IsZoneTree};
 ghost use Rattle.dns_zone.specs.ZoneForm.{IsBuilt};
 
-use crate::tree::Tree;
 use crate::tree::counts::Counts;
 use crate::tree::node::Node;
 use crate::tree::row::RowNumber;
+use crate::tree::zone_tree::Tree;
 use dns_name::Name;
 use std::marker::Model;
 
@@ -17,7 +18,7 @@ use std::marker::Model;
 /// nor another walk can be obtained from it. So all steps of code that is given a walk are counted.
 #[derive(Drop)]
 pub struct Steps<'z> {
-    pub(crate) tree: &'z Tree,
+    tree: &'z Tree,
     pub(crate) counts: Counts,
 }
 
@@ -37,6 +38,17 @@ impl<'z> Model for Steps<'z> {
 }
 
 impl<'z> Steps<'z> {
+    /// A walk over a tree, with counts of 0.
+    pub(crate) fn over(tree: &'z Tree) -> Steps<'z>
+        requires { IsZoneTree tree.now }
+        ensures { result ≡ record { zone = tree.now.zone; visits = 0; comparisons = 0 } }
+    {
+        Steps {
+            tree,
+            counts: Counts::over(tree),
+        }
+    }
+
     /// How many nodes were visited.
     pub fn visits(&self) -> u32
         ensures { result ≡ self.now.visits }
@@ -57,7 +69,7 @@ impl<'z> Steps<'z> {
         ensures lower { folded self.now.zone.origin ≡ self.now.zone.origin }
         ensures built { IsBuilt self.now.zone }
     {
-        self.tree.zone.origin()
+        self.tree.zone().origin()
     }
 
     /// Visits the node of the origin; the visit is counted.
