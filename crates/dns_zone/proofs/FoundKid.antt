@@ -1,7 +1,13 @@
 -- Finding a label among the labels of children, which rise.
-use Rattle.dns_zone.proofs.Common.{◌≡◌, ℕ, zero, suc, ◌+◌, ◌-◌, ◌/◌, ◌<◌, ◌≤◌, ◌⊎◌, inl, inr, List, [], ◌∷◌, map, length, get_or, sym, ap, ◌∙◌, add-one, arith, subst, Less, Equal, Greater, cases_lt, false≢true, nat_list_cmp_total, tied_itself, get_or-map, length-map, get_or_default, Octets, label_order, ResourceRecord, Among, Rises, among_contains, row_label, row_at, room_after, Row}
+use Rattle.dns_zone.proofs.Common.{◌≡◌, ℕ, zero, suc, ◌+◌, ◌-◌, ◌/◌, ◌<◌, ◌≤◌, ◌⊎◌, inl, inr, List, [], ◌∷◌, map, length, get_or, sym, ap, ◌∙◌, add-one, arith, subst, Less, Equal, Greater, cases_lt, false≢true, nat_list_cmp_total, tied_itself, get_or-map, length-map, get_or_default, Octets, label_order, ResourceRecord, Among, Rises, among_contains, row_label, row_at, Row}
 use Rattle.dns_zone.specs.declared.tree.counts.Counts.{Counts}
 use Rattle.dns_spec.proofs.General.Elements.{each_get}
+
+-- The most children that remain to be searched after k comparisons. A node has at most 100,000
+-- children.
+abbrev pub room_after : ℕ → ℕ
+room_after zero = 131071
+room_after (suc k) = room_after k / 2
 
 rises_at : (ls : List Octets) (i j : ℕ) → Rises label_order ls → i < j → j < length ls
     → label_order (get_or ls i []) (get_or ls j []) ≡ Less

@@ -1,6 +1,10 @@
 -- Moving records to the places that they have in a list of places.
-use Rattle.dns_zone.proofs.Common.{◌≡◌, ℕ, ◌+◌, ◌<◌, ◌≤◌, ◌⊎◌, inl, inr, List, length, take, map, set, get_or, sym, ap, ◌∙◌, arith, length-map, length-take, length-set, get_or-map, get_or-take, get_or-set_same, get_or-set_other, get_or_default, cases_order, min-eq_left, subst, SwappedAt, ResourceRecord, AreApart, no_place, no_record, placed, Place}
+use Rattle.dns_zone.proofs.Common.{◌≡◌, ℕ, ◌+◌, ◌<◌, ◌≤◌, ◌⊎◌, inl, inr, List, length, take, map, set, get_or, sym, ap, ◌∙◌, arith, length-map, length-take, length-set, get_or-map, get_or-take, get_or-set_same, get_or-set_other, get_or_default, cases_order, min-eq_left, subst, SwappedAt, ResourceRecord, AreApart, no_record, placed, Place}
 use Rattle.std.proofs.lemmas.List.{ext_get_or}
+
+-- stands for a place that does not exist
+abbrev pub no_place : Place
+no_place = record { front = 0; next = 0; at = 0; start = 0 }
 
 -- The records `now` are the records `old`, moved: `record_at` has the old index of the record at
 -- each index, and `index_of` the index of each old record. The first `to` places are filled.

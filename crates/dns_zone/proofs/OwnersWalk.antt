@@ -1,5 +1,5 @@
 -- A walk over records of a zone in canonical order, owner by owner.
-use Rattle.dns_zone.proofs.Common.{◌≡◌, ℕ, ◌+◌, Bool, true, false, not, cond, List, [], ◌∷◌, ◌++◌, ◌<◌, length, take, drop, refl, sym, ap, ap₂, ◌∙◌, arith, subst, filter, is_gt, Less, false≢true, false_from_ne_true, length-filter_both, All-head, prefix_len, IsPartitionedBy, DomainName, folded, same, names_equal, name_order, ResourceRecord, ZoneContents, at, record_order, recursion_from_All, All-from_recursion, record_order_total, each_filter, filter_each, each_weaker, AreOrdered, IsOwner, first_owner, HasOwners, begins_with_owner, owners_once}
+use Rattle.dns_zone.proofs.Common.{◌≡◌, ℕ, ◌+◌, Bool, true, false, not, cond, List, [], ◌∷◌, ◌++◌, ◌<◌, length, take, drop, refl, sym, ap, ap₂, ◌∙◌, arith, subst, filter, is_gt, Less, false≢true, false_from_ne_true, length-filter_both, All-head, prefix_len, IsPartitionedBy, DomainName, folded, same, names_equal, name_order, ResourceRecord, ZoneContents, at, record_order, recursion_from_All, All-from_recursion, record_order_total, each_filter, filter_each, each_weaker, AreOrdered, IsOwner, first_owner, begins_with_owner, owners_once}
 use Rattle.dns_zone.proofs.NameOrder.{same-is, same-from, same-tied}
 use Rattle.dns_zone.proofs.AtName.{is_at, OwnerNotAfter, ordered_records, owners_in_order}
 use Rattle.dns_zone.proofs.KidRows.{at_in_front}
@@ -10,6 +10,14 @@ use Rattle.dns_spec.proofs.General.Elements.{each_both, each_always}
 use Rattle.dns_spec.proofs.General.Filters.{filter_all, filter_within}
 use Rattle.dns_spec.proofs.General.Pairs.{Pairs, pairs_filter, unmoved}
 use Rattle.dns_spec.proofs.General.Fronts.{front}
+use Rattle.std.specs.Prelude.{All}
+
+-- Records in canonical order that include, for each of their owners, all of the zone's records of
+-- that owner.
+pub record HasOwners (z : ZoneContents) (rs : List ResourceRecord) : Type 0 where
+  pub ordered : AreOrdered rs
+  pub all : All (λ (r : ResourceRecord). filter (λ (s : ResourceRecord). same s.owner r.owner) rs
+      ≡ at z r.owner) rs
 
 -- the first of a name's records is counted without a test
 pub one_more : (n : DomainName) (r : ResourceRecord) (rs : List ResourceRecord) (k : ℕ)

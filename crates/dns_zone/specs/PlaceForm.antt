@@ -15,10 +15,6 @@ use Rattle.dns_zone.specs.declared.order.place.Place.{Place}
 abbrev pub no_record : ResourceRecord
 no_record = record { owner = []; ttl = 0; rtype = 0; rdata = [] }
 
--- stands for a place that does not exist
-abbrev pub no_place : Place
-no_place = record { front = 0; next = 0; at = 0; start = 0 }
-
 -- the record at a place, or `first` if there is none
 abbrev pub placed : List ResourceRecord → ResourceRecord → Place → ResourceRecord
 placed rs first p = get_or rs p.at first

@@ -23,13 +23,6 @@ owners_once [] = []
 owners_once (r ∷ rs) = (if begins_with_owner r.owner rs then [] else folded r.owner ∷ [])
     ++ owners_once rs
 
--- Records in canonical order that include, for each of their owners, all of the zone's records of
--- that owner.
-pub record HasOwners (z : ZoneContents) (rs : List ResourceRecord) : Type 0 where
-  pub ordered : AreOrdered rs
-  pub all : All (λ (r : ResourceRecord). filter (λ (s : ResourceRecord). same s.owner r.owner) rs
-      ≡ at z r.owner) rs
-
 -- `faults_at`, as a definition that is unfolded only on request
 unfoldable pub reported_at : ZoneContents → DomainName → List Fault
 reported_at z n = faults_at z n

@@ -85,9 +85,3 @@ pub record IsTree (o : DomainName) (rs : List ResourceRecord) (rows : List Row)
   pub within : (k : ℕ) → k < length rows → get_or bounds (k + 1) 0 ≤ length rows
   pub kids : (k : ℕ) → k < length rows
       → AreKids rs (row_name rs (row_at rows k)) (kids_at rows bounds k)
-
--- The most children that remain to be searched after k comparisons. A node has at most 100,000
--- children.
-abbrev pub room_after : ℕ → ℕ
-room_after zero = 131071
-room_after (suc k) = room_after k / 2

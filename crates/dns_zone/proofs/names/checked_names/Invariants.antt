@@ -1,4 +1,5 @@
-use Rattle.dns_zone.proofs.Common.{◌≡◌, ◌+◌, ◌++◌, length, map, drop, ZoneContents, AllByRecursion, owner_of, IsChecked, HasOwners, owners_once}
+use Rattle.dns_zone.proofs.Common.{◌≡◌, ◌+◌, ◌++◌, length, map, drop, ZoneContents, AllByRecursion, owner_of, IsChecked, owners_once}
+use Rattle.dns_zone.proofs.OwnersWalk.{HasOwners}
 use Rattle.dns_zone.proofs.GrowingNames.{LastName}
 use Rattle.dns_zone.proofs.names.checked_names.Given as goal
 

@@ -1,5 +1,5 @@
-use Rattle.dns_zone.proofs.Common.{arith, ◌≡◌, ◌∙◌, length, get_or, get_or_default, subst, no_place}
-use Rattle.dns_zone.proofs.Gathered.{IsGathered, one_step, all_gathered}
+use Rattle.dns_zone.proofs.Common.{arith, ◌≡◌, ◌∙◌, length, get_or, get_or_default, subst}
+use Rattle.dns_zone.proofs.Gathered.{IsGathered, one_step, all_gathered, no_place}
 use Rattle.dns_zone.proofs.order.sort.gather.Goals as goal
 
 pub places-preserved : goal.places-preserved

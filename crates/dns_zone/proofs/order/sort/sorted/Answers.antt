@@ -1,4 +1,5 @@
-use Rattle.dns_zone.proofs.Common.{◌≡◌, ◌<◌, ◌≤◌, ◌∙◌, ℕ, List, All, length, map, sym, ap, ap₂, subst, arith, length-map, get_or-map, Octets, ResourceRecord, IsReadRecord, record_order, sort_risen, rises_canonical, all_canonical, AreApart, AreOrdered, AreKeyed, ArePlaces, AreSorted, key_in, name_key, no_place, no_record, placed, Place}
+use Rattle.dns_zone.proofs.Common.{◌≡◌, ◌<◌, ◌≤◌, ◌∙◌, ℕ, List, All, length, map, sym, ap, ap₂, subst, arith, length-map, get_or-map, Octets, ResourceRecord, IsReadRecord, record_order, sort_risen, rises_canonical, all_canonical, AreApart, AreOrdered, AreKeyed, ArePlaces, AreSorted, key_in, name_key, no_record, placed, Place}
+use Rattle.dns_zone.proofs.Gathered.{no_place}
 use Rattle.dns_zone.proofs.order.sort.sorted.Goals as goal
 use Rattle.dns_zone.proofs.order.sort.sorted.Goals.{In_ok-sort_places, In_ok-gather}
 use Rattle.dns_zone.proofs.AtName.{canonical}
