@@ -7,7 +7,7 @@
 
 mod work;
 
-use dns_tools::{FaultWord, given_words, say};
+use dns_tools::{FaultText, given_words, say};
 use std::io;
 use std::process::ExitCode;
 use std::rt::{Env, Files};
@@ -20,19 +20,19 @@ fn main(rt: HostRuntime) -> ExitCode {
     })
 }
 
-fn do_all<R: Env + Files + Input + Print + AllocGlobal>(rt: &R) -> Result<(), FaultWord> {
+fn do_all<R: Env + Files + Input + Print + AllocGlobal>(rt: &R) -> Result<(), FaultText> {
     let words = given_words(rt)?;
     let [rounds] = words.as_slice() else {
-        return Err(FaultWord::Usage);
+        return Err(FaultText::Usage);
     };
     let Ok(rounds) = rounds.parse::<u32>() else {
-        return Err(FaultWord::Usage);
+        return Err(FaultText::Usage);
     };
     let input = io::read_to_string(rt.alloc(), rt.reader());
-    let input = input.map_err(|_| FaultWord::SourceFailed)?;
+    let input = input.map_err(|_| FaultText::SourceFailed)?;
     for line in input.as_str().lines() {
         let octets = octets_of_work(rt, line, rounds)?;
-        println!(rt; "{octets}").map_err(|_| FaultWord::SinkFailed)?;
+        println!(rt; "{octets}").map_err(|_| FaultText::SinkFailed)?;
     }
     Ok(())
 }

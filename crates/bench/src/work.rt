@@ -2,10 +2,10 @@
 ghost use Rattle.std.specs.Prelude.{IfOk};
 ghost use Rattle.dns_spec.specs.Data.{Valid};
 
-use dns_answer::{Limit, TcpDraft, respond, respond_in};
+use dns_answer::{Limit, TcpBuilder, respond, respond_in};
 use dns_name::{Name, Tally};
 use dns_rdata::{RType, Rdata, Word};
-use dns_tools::{FaultWord, load_zone};
+use dns_tools::{FaultText, load_zone};
 use dns_zone::{Steps, Zone};
 use std::alloc::{AllocError, Global};
 use std::fs;
@@ -18,7 +18,7 @@ pub(crate) fn octets_of_work<R: Files + AllocGlobal>(
     rt: &R,
     line: &str,
     rounds: u32,
-) -> Result<usize, FaultWord> {
+) -> Result<usize, FaultText> {
     let alloc = rt.alloc();
     let (work, others) = halves(line);
     let (first, others) = halves(others);
@@ -27,7 +27,7 @@ pub(crate) fn octets_of_work<R: Files + AllocGlobal>(
         "write" => write_data(alloc, first, others, rounds),
         "udp" => answer_udp(&zone_of(rt, first)?, &query(alloc, others)?, rounds),
         "tcp" => answer_tcp(alloc, &zone_of(rt, first)?, &query(alloc, others)?, rounds),
-        _ => Err(FaultWord::Usage),
+        _ => Err(FaultText::Usage),
     }
 }
 
@@ -47,18 +47,18 @@ fn words<'a>(alloc: Global, rtype: RType, text: &'a str) -> Result<Vec<Word<'a>>
     Ok(words)
 }
 
-fn type_of(word: &str) -> Result<RType, FaultWord> {
-    RType::read_text(word.as_bytes()).ok_or(FaultWord::Usage)
+fn type_of(word: &str) -> Result<RType, FaultText> {
+    RType::read_text(word.as_bytes()).ok_or(FaultText::Usage)
 }
 
-fn read(alloc: Global, rtype: RType, words: &[Word<'_>]) -> Result<Rdata, FaultWord>
+fn read(alloc: Global, rtype: RType, words: &[Word<'_>]) -> Result<Rdata, FaultText>
     ensures { IfOk result (λ d. Valid rtype.0 d) }
 {
     let read = Rdata::read_words(alloc, rtype, words, &Name::root());
-    read.map_err(|_| FaultWord::SourceFailed)
+    read.map_err(|_| FaultText::SourceFailed)
 }
 
-fn read_data(alloc: Global, rtype: &str, text: &str, rounds: u32) -> Result<usize, FaultWord> {
+fn read_data(alloc: Global, rtype: &str, text: &str, rounds: u32) -> Result<usize, FaultText> {
     let rtype = type_of(rtype)?;
     let words = words(alloc, rtype, text)?;
     let mut octets = 0;
@@ -68,7 +68,7 @@ fn read_data(alloc: Global, rtype: &str, text: &str, rounds: u32) -> Result<usiz
     Ok(octets)
 }
 
-fn write_data(alloc: Global, rtype: &str, text: &str, rounds: u32) -> Result<usize, FaultWord> {
+fn write_data(alloc: Global, rtype: &str, text: &str, rounds: u32) -> Result<usize, FaultText> {
     let rtype = type_of(rtype)?;
     let rdata = read(alloc, rtype, words(alloc, rtype, text)?.as_slice())?;
     let mut room = Vec::new(alloc);
@@ -77,20 +77,20 @@ fn write_data(alloc: Global, rtype: &str, text: &str, rounds: u32) -> Result<usi
         let mut sink = Tally::new(room);
         let written = Rdata::write_text(rtype, rdata.octets(), &mut sink);
         room = sink.into_inner();
-        written.map_err(|_| FaultWord::SinkFailed)?;
+        written.map_err(|_| FaultText::SinkFailed)?;
     }
     Ok(rdata.octets().len())
 }
 
 // The zone `example.` in a file.
-fn zone_of<R: Files + AllocGlobal>(rt: &R, path: &str) -> Result<Zone, FaultWord> {
+fn zone_of<R: Files + AllocGlobal>(rt: &R, path: &str) -> Result<Zone, FaultText> {
     let origin = Name::read_text(b"example.", &Name::root())?;
-    let text = fs::read_to_string(rt, path).map_err(|_| FaultWord::SourceFailed)?;
+    let text = fs::read_to_string(rt, path).map_err(|_| FaultText::SourceFailed)?;
     let zone = load_zone(rt.alloc(), &origin, &mut Tally::new(text.as_bytes()));
-    zone.map_err(|_| FaultWord::SourceFailed)
+    zone.map_err(|_| FaultText::SourceFailed)
 }
 
-fn query(alloc: Global, question: &str) -> Result<Vec<u8>, FaultWord> {
+fn query(alloc: Global, question: &str) -> Result<Vec<u8>, FaultText> {
     let (name, rtype) = halves(question);
     let name = Name::read_text(name.as_bytes(), &Name::root())?;
     let mut query = Vec::new(alloc);
@@ -101,8 +101,8 @@ fn query(alloc: Global, question: &str) -> Result<Vec<u8>, FaultWord> {
     Ok(query)
 }
 
-// Answers over UDP with `respond`, which makes a new draft for each reply.
-fn answer_udp(zone: &Zone, query: &[u8], rounds: u32) -> Result<usize, FaultWord> {
+// Answers over UDP with `respond`, which makes a new builder for each reply.
+fn answer_udp(zone: &Zone, query: &[u8], rounds: u32) -> Result<usize, FaultText> {
     let mut out = [0; 512];
     let mut octets = 0;
     for _ in 0..rounds {
@@ -112,12 +112,12 @@ fn answer_udp(zone: &Zone, query: &[u8], rounds: u32) -> Result<usize, FaultWord
     looked_at(&out, octets)
 }
 
-// Answers over TCP with one draft for all replies, as a server does.
-fn answer_tcp(alloc: Global, zone: &Zone, query: &[u8], rounds: u32) -> Result<usize, FaultWord> {
-    let mut draft = Box::new(alloc, TcpDraft::new())?;
+// Answers over TCP with one builder for all replies, as a server does.
+fn answer_tcp(alloc: Global, zone: &Zone, query: &[u8], rounds: u32) -> Result<usize, FaultText> {
+    let mut builder = Box::new(alloc, TcpBuilder::new())?;
     let mut octets = 0;
     for round in 0..rounds {
-        let reply = respond_in(&mut Steps::new(zone), query, &mut draft).unwrap_or(b"");
+        let reply = respond_in(&mut Steps::new(zone), query, &mut builder).unwrap_or(b"");
         octets = reply.len();
         if round == rounds - 1 {
             looked_at(reply, octets)?;
@@ -128,9 +128,9 @@ fn answer_tcp(alloc: Global, zone: &Zone, query: &[u8], rounds: u32) -> Result<u
 
 // Checks the last output, so that the compiler can't remove the work: no reply consists only of
 // zeros.
-fn looked_at(written: &[u8], octets: usize) -> Result<usize, FaultWord> {
+fn looked_at(written: &[u8], octets: usize) -> Result<usize, FaultText> {
     if written.iter().all(|octet| *octet == 0) {
-        return Err(FaultWord::SinkFailed);
+        return Err(FaultText::SinkFailed);
     }
     Ok(octets)
 }

@@ -7,9 +7,9 @@ pub use Rattle.std.proofs.lemmas.Bool.Decides.{nat_tests}
 pub use Rattle.std.proofs.lemmas.Map.Views.{any-filter_same}
 pub use Rattle.dns_answer.specs.Chain.{aliases_of, names_from, rest_of}
 unfoldable pub use Rattle.dns_answer.specs.Chain.{chain_rest}
-pub use Rattle.dns_answer.specs.Draft.{Draft, empty_draft, offer, size_with}
-unfoldable pub use Rattle.dns_answer.specs.Draft.{offered}
-pub use Rattle.dns_answer.specs.DraftForm.{Holds, Offers, State}
+pub use Rattle.dns_answer.specs.OfferedReply.{ReplyBuilder, empty_draft, offer, size_with}
+unfoldable pub use Rattle.dns_answer.specs.OfferedReply.{offered}
+pub use Rattle.dns_answer.specs.ReplyBuilderForm.{Holds, Offers, State}
 pub use Rattle.dns_answer.specs.Ending.{Ends, IsPlain, Rest, Says, TookRest, all_names, asked_item, ending, ending_required, ending_targets, glue_by, inside, misses_by, nodes_by, not_inside, others_by}
 pub use Rattle.dns_answer.specs.Replies.{Answers, Costs, IsHeaded, IsLaidOut, IsPut, IsReply, Responds}
 pub use Rattle.dns_answer.specs.Seeking.{AreTargets, Completes, Followed, HasNoAlias, IsShown, MaySeek, NextIs, Seeks, aliases_left, leads_on, names_of, unsought}
@@ -30,13 +30,13 @@ pub use Rattle.dns_spec.proofs.ZoneChecks.PassedChecks.{few_soa, one_soa, passes
 pub use Rattle.dns_spec.specs.Answer.{most_comparisons, stands}
 pub use Rattle.dns_spec.specs.Checks.{outside}
 pub use Rattle.dns_spec.specs.Reply.{Reply, decide_question}
-pub use Rattle.dns_wire.specs.Draft.{IsDraft}
+pub use Rattle.dns_wire.specs.PartialMessage.{IsPartial}
 pub use Rattle.dns_wire.specs.QueryForm.{code_of}
 pub use Rattle.dns_wire.specs.QuickNumbers.{quick_number}
 pub use Rattle.dns_zone.proofs.Existing.{exists-lower}
 pub use Rattle.dns_zone.proofs.NameOrder.{same-from, same-is}
 pub use Rattle.dns_zone.proofs.NameTree.{below-cons, itself-under, same-under, under-trans}
-pub use Rattle.dns_zone.proofs.WayLaws.{above_under, any_weaker, at-folded, cut-above, cut-by_set, cut-here, cut-none, encloser-above, encloser-here, exists-folded, exists-up, no_cut-at_origin, set-owned, under_same}
+pub use Rattle.dns_zone.proofs.PathLaws.{above_under, any_weaker, at-folded, cut-above, cut-by_set, cut-here, cut-none, encloser-above, encloser-here, exists-folded, exists-up, no_cut-at_origin, set-owned, under_same}
 pub use Rattle.dns_zone.specs.Nodes.{IsSetOf, Walk, ZoneNode}
 pub use Rattle.dns_zone.specs.Starts.{IsBelow}
 pub use Rattle.dns_zone.specs.ZoneForm.{IsBuilt}

@@ -19,7 +19,7 @@ says-in_order z o a g b rcode refers full =
       offers = Offers-then _ _ _ _ _ first b;
       rcode = rcode;
       referral = refers;
-      truncated = λ d held. full ∙ (first.draft d held).full;
+      truncated = λ d held. full ∙ (first.builder d held).full;
     }
 
 -- an answer without a referral

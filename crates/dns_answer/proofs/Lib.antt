@@ -2,8 +2,8 @@ pub mod Common
 pub mod Taking
 pub mod Offered
 pub mod Offering
-pub mod WaySteps
-pub mod LongWays
+pub mod PathSteps
+pub mod LongPaths
 pub mod TargetLaws
 pub mod EndingSets
 pub mod Endings

@@ -1,6 +1,6 @@
 -- The octets at the front of the buffer are the reply that the definitions state.
-use Rattle.dns_answer.proofs.Common.{◌≡◌, ℕ, ◌+◌, Bool, true, false, cond, not, ◌&&◌, nat_lt, nat_le, List, [], ◌∷◌, ◌++◌, length, Option, Some, is_some, refl, ap, ◌∙◌, subst, arith, DomainName, is_name, ZoneContents, Header, MessageQuestion, Item, layout, size, most_aliases, outcome, items, is_authoritative, option_map, IsDraft, quick_number, reply_head, Decision, kept, truncated, answered, keep_longest, reply_of, reply_octets, few_nodes, Walk, code_of, empty_draft, offer, offered, size_with, State, Holds, IsHeaded, Rest, TookRest, chain_rest, Seeks, Followed, Answers, Costs, Verdict}
-use Rattle.dns_answer.specs.Draft as spec
+use Rattle.dns_answer.proofs.Common.{◌≡◌, ℕ, ◌+◌, Bool, true, false, cond, not, ◌&&◌, nat_lt, nat_le, List, [], ◌∷◌, ◌++◌, length, Option, Some, is_some, refl, ap, ◌∙◌, subst, arith, DomainName, is_name, ZoneContents, Header, MessageQuestion, Item, layout, size, most_aliases, outcome, items, is_authoritative, option_map, IsPartial, quick_number, reply_head, Decision, kept, truncated, answered, keep_longest, reply_of, reply_octets, few_nodes, Walk, code_of, empty_draft, offer, offered, size_with, State, Holds, IsHeaded, Rest, TookRest, chain_rest, Seeks, Followed, Answers, Costs, Verdict}
+use Rattle.dns_answer.specs.OfferedReply as spec
 use Rattle.dns_answer.proofs.Offering.{Offers-is}
 use Rattle.dns_answer.proofs.Offered.{offered-keeps, offered-truncated}
 use Rattle.dns_answer.proofs.AnswerItems.{items-are, required-are, required-first, rcode-is}
@@ -10,14 +10,14 @@ use Rattle.dns_answer.proofs.AnswerCosts.{authority-is, visits-fit, comparisons-
 pub refusal-put : (z : ZoneContents) (limit : ℕ) (x : Decision) (h : Header)
     (q : Option MessageQuestion) (w : State)
     → Some (layout h q []) ≡ option_map reply_octets (reply_of (keep_longest z limit) z x)
-    → IsDraft quick_number q [] w.page → w.page.limit ≡ limit → IsHeaded z limit x w h
+    → IsPartial quick_number q [] w.message → w.message.limit ≡ limit → IsHeaded z limit x w h
 refusal-put z limit x h q w is begun room = λ sent laid. record {
   octets = ap (λ o. Some o) (laid.octets q [] begun) ∙ is;
   within = omega (arith, laid.within, room);
 }
 
 -- offering sets does not change the question
-offered-question : (d : spec.Draft) (is : List Item) → (offered d is).question ≡ d.question
+offered-question : (d : spec.ReplyBuilder) (is : List Item) → (offered d is).question ≡ d.question
 unfolding offered
 offered-question d [] = refl
 offered-question d (i ∷ is) = offered-question (offer d i) is
@@ -61,7 +61,7 @@ module _ (z : ZoneContents) (h : Header) (q : MessageQuestion) where
   answer-put limit w w' head begun stated = λ sent laid.
       let all = items z q.qname q.qtype in
       let d = offered (empty_draft q limit) all in
-      let held : Holds w' d = stated.offers.draft (empty_draft q limit) begun in
+      let held : Holds w' d = stated.offers.builder (empty_draft q limit) begun in
       record {
         octets =
             ap (λ x. Some x)

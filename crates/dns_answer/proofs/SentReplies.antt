@@ -76,9 +76,9 @@ module _ (d : Octets) (y : QueryRead) (read : y ≡ query_read d) (s s' : Walk) 
       }
 
 -- a reply within a limit fits in a buffer of as many octets
-pub put_room : (lent : Option (Bor Octets)) (limit room : ℕ)
-    → IfSome (option_copied lent) (λ o. length o ≤ limit)
-    → room ≡ limit → IfSome lent (λ o. length o.now ≤ room)
+pub put_room : (borrowed : Option (Bor Octets)) (limit room : ℕ)
+    → IfSome (option_copied borrowed) (λ o. length o ≤ limit)
+    → room ≡ limit → IfSome borrowed (λ o. length o.now ≤ room)
 put_room None limit room h e = tt
 put_room (Some o) limit room h e = omega (arith, h, e)
 

@@ -10,9 +10,9 @@ use Rattle.dns_spec.specs.Sets.{RecordSet, records_at}
 use Rattle.dns_spec.specs.Answer.{Outcome, positive, main_items, targets_of}
 use Rattle.dns_zone.specs.Nodes.{Walk}
 use Rattle.dns_wire.specs.QueryForm.{code_of}
-use Rattle.dns_answer.specs.Draft as spec
-use Rattle.dns_answer.specs.Draft.{offered}
-use Rattle.dns_answer.specs.DraftForm.{State, Holds, Offers}
+use Rattle.dns_answer.specs.OfferedReply as spec
+use Rattle.dns_answer.specs.OfferedReply.{offered}
+use Rattle.dns_answer.specs.ReplyBuilderForm.{State, Holds, Offers}
 use Rattle.dns_answer.specs.Walks.{Took}
 use Rattle.dns_answer.specs.Targets.{side_items, side_nodes}
 use Rattle.dns_answer.specs.declared.ending.Verdict.{Verdict}
@@ -79,7 +79,7 @@ pub record Says (w w' : State) (r : Rest) (v : Verdict) : Type 0 where
   pub offers : Offers w w' r.items
   pub rcode : code_of v.rcode ≡ r.outcome.rcode
   pub referral : v.is_referral ≡ is_some r.outcome.referral
-  pub truncated : (d : spec.Draft) → Holds w d → v.is_truncated ≡ (offered d r.required).full
+  pub truncated : (d : spec.ReplyBuilder) → Holds w d → v.is_truncated ≡ (offered d r.required).full
 
 -- The verdict is not a referral, and states whether a set that was offered is missing.
 pub record IsPlain (w : State) (code : ℕ) (v : Verdict) : Type 0 where

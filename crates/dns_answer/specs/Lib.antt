@@ -1,5 +1,5 @@
-pub mod Draft
-pub mod DraftForm
+pub mod OfferedReply
+pub mod ReplyBuilderForm
 pub mod Walks
 pub mod Targets
 pub mod Ending

@@ -9,11 +9,11 @@ use Rattle.dns_spec.specs.Query.{is_ignored}
 use Rattle.dns_spec.specs.Answer.{items, most_visits, names_looked_up, most_comparisons}
 use Rattle.dns_spec.specs.Reply.{Decision, silence, header_alone, question_alone, answered, refusal, answer_with, reply_of, keep_longest, reply_octets, decide, reply, reply_message, octets_of}
 use Rattle.dns_zone.specs.Nodes.{Walk}
-use Rattle.dns_wire.specs.Draft.{IsDraft}
+use Rattle.dns_wire.specs.PartialMessage.{IsPartial}
 use Rattle.dns_wire.specs.QueryForm.{code_of}
 use Rattle.dns_wire.specs.QuickNumbers.{quick_number}
-use Rattle.dns_answer.specs.Draft.{empty_draft}
-use Rattle.dns_answer.specs.DraftForm.{State, Holds, Offers}
+use Rattle.dns_answer.specs.OfferedReply.{empty_draft}
+use Rattle.dns_answer.specs.ReplyBuilderForm.{State, Holds, Offers}
 use Rattle.dns_zone.specs.Starts.{IsBelow}
 use Rattle.dns_wire.specs.declared.query.Rcode.{Rcode}
 use Rattle.dns_zone.specs.declared.tree.sought.Sought.{Sought}
@@ -29,11 +29,11 @@ pub record IsReply (z : ZoneContents) (limit : ℕ) (x : Decision) (sent : Octet
   pub octets : Some sent ≡ option_map reply_octets (reply_of (keep_longest z limit) z x)
   pub within : length sent ≤ limit
 
--- the octets of the written reply with its header, as `Page::finish` makes them
+-- the octets of the written reply with its header, as `MessageBuilder::finish` makes them
 pub record IsLaidOut (w : State) (head : Header) (sent : Octets) : Type 0 where
   pub octets : (q : Option MessageQuestion) (items : List Item)
-      → IsDraft quick_number q items w.page → sent ≡ layout head q items
-  pub within : length sent ≤ w.page.limit
+      → IsPartial quick_number q items w.message → sent ≡ layout head q items
+  pub within : length sent ≤ w.message.limit
 
 -- With this header, the written reply is the reply of a decision.
 abbrev pub IsHeaded : ZoneContents → ℕ → Decision → State → Header → Type 0

@@ -9,7 +9,7 @@ use Rattle.dns_spec.specs.Sets.{RecordSet, set_of}
 use Rattle.dns_spec.specs.Records.{ZoneContents, ResourceRecord, of_type}
 use Rattle.dns_spec.specs.Answer.{most_aliases, follows_alias, alias_set, has_any, asked_records}
 use Rattle.dns_zone.specs.Nodes.{Walk, ZoneNode}
-use Rattle.dns_answer.specs.DraftForm.{State}
+use Rattle.dns_answer.specs.ReplyBuilderForm.{State}
 use Rattle.dns_zone.specs.Starts.{IsBelow}
 use Rattle.dns_answer.specs.Walks.{IsApex, HasNodesLeft}
 use Rattle.dns_answer.specs.Ending.{Says, TookRest}

@@ -6,8 +6,8 @@ use Rattle.dns_spec.specs.Names.{DomainName, folded, at_or_below}
 use Rattle.dns_spec.specs.Records.{ZoneContents, at, with_owner}
 use Rattle.dns_spec.specs.Tree.{exists, cut_of, closest_encloser, found}
 use Rattle.dns_zone.specs.Nodes.{Walk, ZoneNode, IsNode}
-use Rattle.dns_answer.specs.declared.lookup.Way.{Way}
-use Rattle.dns_answer.specs.declared.lookup.Way.TheVariants as ways
+use Rattle.dns_answer.specs.declared.lookup.PathEnd.{PathEnd}
+use Rattle.dns_answer.specs.declared.lookup.PathEnd.TheVariants as ways
 use Rattle.dns_answer.specs.declared.lookup.Found.{Found}
 use Rattle.dns_answer.specs.declared.lookup.Found.TheVariants as finds
 use Rattle.dns_answer.specs.declared.lookup.Cuts.{Cuts}
@@ -62,7 +62,7 @@ pub record IsBelowCut (z : ZoneContents) (n : DomainName) (node : ZoneNode) : Ty
   pub cut : cut_of z n ≡ Some node.name
   pub zone : node.zone ≡ z
 
-abbrev pub WalkedTo : ZoneContents → ZoneNode → Bool → DomainName → Way → Type 0
+abbrev pub WalkedTo : ZoneContents → ZoneNode → Bool → DomainName → PathEnd → Type 0
 WalkedTo z start ends n (ways.Cut node) = (ends ≡ true) × IsBelowCut z n node
 WalkedTo z start ends n (ways.Name node) = IsThere z start ends n node
 WalkedTo z start ends n (ways.Encloser node) = IsMissing z start ends n node
@@ -95,12 +95,12 @@ pub record Took (s s' : Walk) (nodes misses : ℕ) : Type 0 where
   pub visits : s'.visits ≤ s.visits + nodes
   pub comparisons : s'.comparisons + 17 * s.visits ≤ s.comparisons + 17 * (s'.visits + misses)
 
-abbrev pub missed : Way → ℕ
+abbrev pub missed : PathEnd → ℕ
 missed (ways.Cut c) = 0
 missed (ways.Name n) = 0
 missed (ways.Encloser n) = 1
 
 -- the cost of a path: one node fewer if a child was missing
-pub record TookWay (s s' : Walk) (nodes misses : ℕ) : Type 0 where
+pub record TookPath (s s' : Walk) (nodes misses : ℕ) : Type 0 where
   pub took : Took s s' nodes misses
   pub fewer : s'.visits + misses ≤ s.visits + nodes

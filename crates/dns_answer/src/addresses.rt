@@ -7,11 +7,11 @@ ghost use Rattle.dns_spec.specs.Records.{rrset};
 ghost use Rattle.dns_spec.specs.Layout.{additional};
 ghost use Rattle.dns_spec.specs.Sets.{HasValidData};
 ghost use Rattle.dns_answer.specs.Walks.{IsStart, HasNodesLeft, Took};
-ghost use Rattle.dns_answer.specs.DraftForm.{Offers};
+ghost use Rattle.dns_answer.specs.ReplyBuilderForm.{Offers};
 ghost use Rattle.dns_answer.specs.Targets.{addresses_of, depth_in, side_items, side_nodes, side_takes, Reaches, takes_target, set_targets, targets_of_first, target_at, target_items, target_nodes, target_misses};
 
-use crate::draft::Draft;
-use crate::lookup::{Cuts, Way, or_start, walk};
+use crate::lookup::{Cuts, PathEnd, or_start, walk};
+use crate::reply_builder::ReplyBuilder;
 use dns_name::NameRef;
 use dns_rdata::{RType, SetView};
 use dns_wire::Section;
@@ -49,28 +49,28 @@ pub(crate) fn offer_addresses<'z, const N: usize, const SIZE: usize>(
     side: Side<'_, '_>,
     start: &Node<'z>,
     steps: &mut Steps<'z>,
-    draft: &mut Draft<N, SIZE>,
+    builder: &mut ReplyBuilder<N, SIZE>,
 ) -> bool
     requires start { IsStart steps.old.zone false start.now }
     requires reaches { Reaches steps.old.zone start.now.name (side_takes side) }
     requires valid { HasValidData set.now }
     requires few { length set.now.rdata ≤ 64 }
     requires room { HasNodesLeft steps.old (64 * 128) }
-    ensures offers { Offers draft.old draft.new
+    ensures offers { Offers builder.old builder.new
         (side_items steps.old.zone (side_takes side.entry) [] (set_targets set.now)) }
     ensures took { Took steps.old steps.new
         (side_nodes steps.old.zone (side_takes side.entry) (set_targets set.now))
         (length (filter (side_takes side.entry) (set_targets set.now))) }
     ensures bound { Took steps.old steps.new (127 * 64) 64 }
-    ensures all { (draft.new.full ≡ true)
+    ensures all { (builder.new.full ≡ true)
         ⊎ (result ≡ list_all (side_takes side.entry) (set_targets set.now)) }
 {
     let mut all = true;
     'targets: for i in 0..set.len() {
-        if draft.is_full() {
+        if builder.is_full() {
             return all;
         }
-        all &= offer_target(set, i, side, start, steps, draft);
+        all &= offer_target(set, i, side, start, steps, builder);
     }
     all
 }
@@ -83,14 +83,14 @@ fn offer_target<'z, const N: usize, const SIZE: usize>(
     side: Side<'_, '_>,
     start: &Node<'z>,
     steps: &mut Steps<'z>,
-    draft: &mut Draft<N, SIZE>,
+    builder: &mut ReplyBuilder<N, SIZE>,
 ) -> bool
     requires valid { HasValidData set.now }
     requires inside { i < length set.now.rdata }
     requires start { IsStart steps.old.zone false start.now }
     requires reaches { Reaches steps.old.zone start.now.name (side_takes side) }
     requires room { HasNodesLeft steps.old 128 }
-    ensures offers { Offers draft.old draft.new (target_items steps.old.zone (side_takes side.entry)
+    ensures offers { Offers builder.old builder.new (target_items steps.old.zone (side_takes side.entry)
         (targets_of_first i set.now) (target_at i set.now)) }
     ensures took { Took steps.old steps.new
         (target_nodes steps.old.zone (side_takes side.entry) (target_at i set.now))
@@ -107,7 +107,7 @@ fn offer_target<'z, const N: usize, const SIZE: usize>(
         return false;
     }
     if !stood_before(set, i, &target) {
-        offer_address(&target, start, steps, draft);
+        offer_address(&target, start, steps, builder);
     }
     true
 }
@@ -137,27 +137,27 @@ fn offer_address<'z, const N: usize, const SIZE: usize>(
     target: &NameRef<'_>,
     start: &Node<'z>,
     steps: &mut Steps<'z>,
-    draft: &mut Draft<N, SIZE>,
+    builder: &mut ReplyBuilder<N, SIZE>,
 )
     requires start { IsStart steps.old.zone false start.now }
     requires reached { at_or_below target.now steps.old.zone.origin ≡ true
         → at_or_below target.now start.now.name ≡ true }
     requires lower { folded target.now ≡ target.now }
     requires room { HasNodesLeft steps.old 128 }
-    ensures offers { Offers draft.old draft.new (addresses_of steps.old.zone target.now) }
+    ensures offers { Offers builder.old builder.new (addresses_of steps.old.zone target.now) }
     ensures took { Took steps.old steps.new (depth_in steps.old.zone target.now) 1 }
 {
     let Some(sought) = Sought::below(target, &start.name()) else {
         return;
     };
     let node = match walk(&sought, start, Cuts::Pass, steps) {
-        Way::Cut(_) => return,
-        Way::Encloser(_) => return,
-        Way::Name(node) => node,
+        PathEnd::Cut(_) => return,
+        PathEnd::Encloser(_) => return,
+        PathEnd::Name(node) => node,
     };
     let node = or_start(&node, &*start);
-    offer_type(node, RType::A, target, draft);
-    offer_type(node, RType::AAAA, target, draft);
+    offer_type(node, RType::A, target, builder);
+    offer_type(node, RType::AAAA, target, builder);
 }
 
 // Offers the set of a type at a node, if the node has such a set.
@@ -165,13 +165,13 @@ fn offer_type<const N: usize, const SIZE: usize>(
     node: &Node<'_>,
     rtype: RType,
     owner: &NameRef<'_>,
-    draft: &mut Draft<N, SIZE>,
+    builder: &mut ReplyBuilder<N, SIZE>,
 )
     requires owner { node.now.name ≡ owner.now }
-    ensures { Offers draft.old draft.new
+    ensures { Offers builder.old builder.new
         (item additional (rrset node.now.zone node.now.name rtype.0)) }
 {
     if let Some(set) = node.set(rtype) {
-        draft.offer(Section::Additional, owner, set.ttl(), &set);
+        builder.offer(Section::Additional, owner, set.ttl(), &set);
     }
 }

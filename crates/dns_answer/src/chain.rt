@@ -6,9 +6,9 @@ ghost use Rattle.dns_spec.specs.Records.{at};
 ghost use Rattle.dns_zone.specs.Nodes.{IsSetOf};
 ghost use Rattle.dns_answer.specs.Seeking.{MaySeek, Seeks, Followed, AreTargets, SoughtAs, IsShown, NextIs, names_of};
 
-use crate::draft::Draft;
 use crate::ending::{Verdict, deny, end_with, ended, refer};
 use crate::lookup::{Found, look_up, or_start};
+use crate::reply_builder::ReplyBuilder;
 use arrayvec::ArrayVec;
 use dns_name::{Name, NameRef};
 use dns_rdata::{RType, SetView};
@@ -38,17 +38,17 @@ pub(crate) fn seek<'q, 'z: 'q, const N: usize, const SIZE: usize>(
     qtype: u16,
     apex: &Node<'z>,
     steps: &mut Steps<'z>,
-    draft: &mut Draft<N, SIZE>,
+    builder: &mut ReplyBuilder<N, SIZE>,
 ) -> (Verdict, bool)
     requires { MaySeek steps.old apex.now [] first }
-    ensures seeks { Seeks draft.old draft.new steps.old steps.new qtype [] first.entry.name
+    ensures seeks { Seeks builder.old builder.new steps.old steps.new qtype [] first.entry.name
         result.0 }
     ensures followed { Followed steps.old.zone qtype first.entry.name result.0 result.1 }
 {
-    match seek_one(&first, qtype, &[], apex, steps, draft) {
+    match seek_one(&first, qtype, &[], apex, steps, builder) {
         Next::Last(verdict) => (verdict, false),
         Next::Alias(target) => {
-            let verdict = seek_targets(first, target, qtype, apex, steps, draft);
+            let verdict = seek_targets(first, target, qtype, apex, steps, builder);
             (verdict, true)
         }
     }
@@ -62,17 +62,17 @@ fn seek_targets<'q, 'z: 'q, const N: usize, const SIZE: usize>(
     qtype: u16,
     apex: &Node<'z>,
     steps: &mut Steps<'z>,
-    draft: &mut Draft<N, SIZE>,
+    builder: &mut ReplyBuilder<N, SIZE>,
 ) -> Verdict
     requires { MaySeek steps.old apex.now (first ∷ []) target }
-    ensures { Seeks draft.old draft.new steps.old steps.new qtype (first.entry.name ∷ [])
+    ensures { Seeks builder.old builder.new steps.old steps.new qtype (first.entry.name ∷ [])
         target.entry.name result }
 {
     let mut earlier: ArrayVec<Sought<'q>, MOST_ALIASES> = ArrayVec::new();
     earlier.push(first);
     let mut sought = target;
     'names: loop {
-        match seek_one(&sought, qtype, earlier.as_slice(), apex, steps, draft) {
+        match seek_one(&sought, qtype, earlier.as_slice(), apex, steps, builder) {
             Next::Last(verdict) => return verdict,
             Next::Alias(target) => {
                 earlier.push(sought);
@@ -91,27 +91,27 @@ fn seek_one<'z, const N: usize, const SIZE: usize>(
     earlier: &[Sought<'_>],
     apex: &Node<'z>,
     steps: &mut Steps<'z>,
-    draft: &mut Draft<N, SIZE>,
+    builder: &mut ReplyBuilder<N, SIZE>,
 ) -> Next<'z>
     requires { MaySeek steps.old apex.now earlier.now sought.now }
-    ensures { SoughtAs draft.old draft.new steps.old steps.new qtype apex.now earlier.now sought.now
+    ensures { SoughtAs builder.old builder.new steps.old steps.new qtype apex.now earlier.now sought.now
         result }
 {
     let node = match look_up(sought, apex, steps) {
-        Found::Cut(cut) => return Next::Last(refer(&cut, apex, steps, draft)),
-        Found::Nothing => return Next::Last(deny(Rcode::NameError, apex, steps, draft)),
+        Found::Cut(cut) => return Next::Last(refer(&cut, apex, steps, builder)),
+        Found::Nothing => return Next::Last(deny(Rcode::NameError, apex, steps, builder)),
         Found::Records(node) => node,
     };
     let node = or_start(&node, &*apex);
     let Some((set, is_alias)) = shown_set(node, qtype) else {
-        return Next::Last(deny(Rcode::NoError, apex, steps, draft));
+        return Next::Last(deny(Rcode::NoError, apex, steps, builder));
     };
-    draft.offer(Section::Answer, &sought.name, set.ttl(), &set);
+    builder.offer(Section::Answer, &sought.name, set.ttl(), &set);
     if !is_alias {
-        return Next::Last(end_with(&set, apex, steps, draft));
+        return Next::Last(end_with(&set, apex, steps, builder));
     }
     let Some(target) = next_sought(&set, sought, earlier, steps.origin()) else {
-        return Next::Last(ended(Rcode::NoError, draft));
+        return Next::Last(ended(Rcode::NoError, builder));
     };
     Next::Alias(target)
 }
@@ -151,7 +151,7 @@ fn next_sought<'z>(
     if earlier.len() >= MOST_ALIASES {
         return None;
     }
-    let next = Sought::below(&alias.target(0)?, &origin.lent())?;
+    let next = Sought::below(&alias.target(0)?, &origin.borrowed())?;
     if is_among(&next.name, sought, earlier) {
         return None;
     }

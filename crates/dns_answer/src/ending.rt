@@ -8,7 +8,7 @@ ghost use Rattle.dns_answer.specs.Walks.{IsApex, IsBelowCut, HasNodesLeft};
 ghost use Rattle.dns_answer.specs.Ending.{Ends, TookTargets, IsPlain, EndsWith, TookWith};
 
 use crate::addresses::{Side, offer_addresses};
-use crate::draft::Draft;
+use crate::reply_builder::ReplyBuilder;
 use dns_rdata::{RType, Rdata, SetView};
 use dns_wire::{Rcode, Section};
 use dns_zone::{Node, RecordSet, Steps};
@@ -31,12 +31,12 @@ pub(crate) fn refer<'z, const N: usize, const SIZE: usize>(
     cut: &Node<'z>,
     apex: &Node<'z>,
     steps: &mut Steps<'z>,
-    draft: &mut Draft<N, SIZE>,
+    builder: &mut ReplyBuilder<N, SIZE>,
 ) -> Verdict
     requires apex { IsApex steps.old.zone apex.now }
     requires cut { (n : DomainName) × IsBelowCut steps.old.zone n cut.now }
     requires room { HasNodesLeft steps.old (128 * 128) }
-    ensures ends { Ends draft.old draft.new steps.old.zone
+    ensures ends { Ends builder.old builder.new steps.old.zone
         (referral_to steps.old.zone cut.now.name) result }
     ensures took { TookTargets steps.old steps.new (referral_to steps.old.zone cut.now.name) }
 {
@@ -46,11 +46,11 @@ pub(crate) fn refer<'z, const N: usize, const SIZE: usize>(
     let Some(owner) = cut.owner() else {
         unreachable!();
     };
-    draft.offer(Section::Authority, &owner, servers.ttl(), &servers);
-    let are_all_inside = offer_addresses(&servers, Side::Inside(&owner), cut, steps, draft);
-    let is_truncated = draft.is_full();
+    builder.offer(Section::Authority, &owner, servers.ttl(), &servers);
+    let are_all_inside = offer_addresses(&servers, Side::Inside(&owner), cut, steps, builder);
+    let is_truncated = builder.is_full();
     if !are_all_inside {
-        offer_addresses(&servers, Side::Outside(&owner), apex, steps, draft);
+        offer_addresses(&servers, Side::Outside(&owner), apex, steps, builder);
     }
     Verdict {
         rcode: Rcode::NoError,
@@ -67,32 +67,32 @@ pub(crate) fn deny<const N: usize, const SIZE: usize>(
     rcode: Rcode,
     apex: &Node<'_>,
     steps: &Steps<'_>,
-    draft: &mut Draft<N, SIZE>,
+    builder: &mut ReplyBuilder<N, SIZE>,
 ) -> Verdict
     requires apex { IsApex apex.now.zone apex.now }
     requires zone { steps.now.zone ≡ apex.now.zone }
-    ensures { Ends draft.old draft.new apex.now.zone
+    ensures { Ends builder.old builder.new apex.now.zone
         (negative apex.now.zone (code_of rcode)) result }
 {
     let Some(soa) = apex.set(RType::SOA) else {
-        return ended(rcode, draft);
+        return ended(rcode, builder);
     };
     let ttl = soa.ttl().min(Rdata::soa_minimum(soa.rdata(0)));
-    draft.offer(Section::Authority, &steps.origin().lent(), ttl, &soa);
-    ended(rcode, draft)
+    builder.offer(Section::Authority, &steps.origin().borrowed(), ttl, &soa);
+    ended(rcode, builder)
 }
 
 /// The verdict for an answer without a referral, after all of its required sets were offered.
 pub(crate) fn ended<const N: usize, const SIZE: usize>(
     rcode: Rcode,
-    draft: &Draft<N, SIZE>,
+    builder: &ReplyBuilder<N, SIZE>,
 ) -> Verdict
-    ensures { IsPlain draft.now (code_of rcode) result }
+    ensures { IsPlain builder.now (code_of rcode) result }
 {
     Verdict {
         rcode,
         is_referral: false,
-        is_truncated: draft.is_full(),
+        is_truncated: builder.is_full(),
     }
 }
 
@@ -102,20 +102,20 @@ pub(crate) fn end_with<'z, const N: usize, const SIZE: usize>(
     set: &RecordSet<'z>,
     apex: &Node<'z>,
     steps: &mut Steps<'z>,
-    draft: &mut Draft<N, SIZE>,
+    builder: &mut ReplyBuilder<N, SIZE>,
 ) -> Verdict
     requires valid { HasValidData set.now }
     requires few { length set.now.rdata ≤ 64 }
     requires apex { IsApex steps.old.zone apex.now }
     requires room { HasNodesLeft steps.old (64 * 128) }
-    ensures ends { EndsWith draft.old draft.new steps.old.zone set.now result }
+    ensures ends { EndsWith builder.old builder.new steps.old.zone set.now result }
     ensures took { TookWith steps.old steps.new set.now }
 {
-    let verdict = ended(Rcode::NoError, draft);
+    let verdict = ended(Rcode::NoError, builder);
     // The addresses of targets of these types are useful to the client.
     let rtype = set.rtype();
     if rtype == RType::NS || rtype == RType::MX || rtype == RType::SRV {
-        offer_addresses(set, Side::All, apex, steps, draft);
+        offer_addresses(set, Side::All, apex, steps, builder);
     }
     verdict
 }

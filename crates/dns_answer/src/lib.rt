@@ -4,10 +4,10 @@
 
 mod addresses;
 mod chain;
-mod draft;
 mod ending;
 mod lookup;
 mod reply;
+mod reply_builder;
 
-pub use draft::Draft;
-pub use reply::{Limit, TcpDraft, UdpDraft, respond, respond_in};
+pub use reply::{Limit, TcpBuilder, UdpBuilder, respond, respond_in};
+pub use reply_builder::ReplyBuilder;

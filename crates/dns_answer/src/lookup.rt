@@ -1,7 +1,7 @@
 //! What a zone has for a name (RFC 1034 4.3.2 step 3).
 ghost use Rattle.std.specs.Prelude.{◌≡◌};
 ghost use Rattle.dns_zone.specs.Starts.{IsBelow};
-ghost use Rattle.dns_answer.specs.Walks.{IsApex, IsStart, labels_below, node_or, ends_at_cuts, WalkedTo, FoundAs, HasNodesLeft, Took, TookWay, missed};
+ghost use Rattle.dns_answer.specs.Walks.{IsApex, IsStart, labels_below, node_or, ends_at_cuts, WalkedTo, FoundAs, HasNodesLeft, Took, TookPath, missed};
 
 use dns_name::Label;
 use dns_rdata::RType;
@@ -9,7 +9,7 @@ use dns_zone::{MOST_LABELS, Node, Sought, Steps, label_after, put_starts};
 
 /// Where the path down to a name ends.
 #[derive(Drop)]
-pub(crate) enum Way<'z> {
+pub(crate) enum PathEnd<'z> {
     /// At the first cut on the path.
     Cut(Node<'z>),
     /// At the name. `None` is the node where the path begins.
@@ -48,9 +48,9 @@ pub(crate) fn look_up<'z>(sought: &Sought<'_>, apex: &Node<'z>, steps: &mut Step
     ensures took { Took steps.old steps.new (labels_below steps.old.zone sought.now.name) 2 }
 {
     let encloser = match walk(sought, apex, Cuts::End, steps) {
-        Way::Cut(node) => return Found::Cut(node),
-        Way::Name(node) => return Found::Records(node),
-        Way::Encloser(node) => node,
+        PathEnd::Cut(node) => return Found::Cut(node),
+        PathEnd::Name(node) => return Found::Records(node),
+        PathEnd::Encloser(node) => node,
     };
     // The wildcard below the encloser (RFC 4592 2.1.1).
     let Some(label) = Label::new(b"*") else {
@@ -80,12 +80,12 @@ pub(crate) fn walk<'z>(
     start: &Node<'z>,
     cuts: Cuts,
     steps: &mut Steps<'z>,
-) -> Way<'z>
+) -> PathEnd<'z>
     requires start { IsStart steps.old.zone (ends_at_cuts cuts) start.now }
     requires below { IsBelow sought.now start.now.name }
     requires room { HasNodesLeft steps.old 127 }
     ensures way { WalkedTo steps.old.zone start.now (ends_at_cuts cuts) sought.now.name result }
-    ensures took { TookWay steps.old steps.new (labels_below steps.old.zone sought.now.name)
+    ensures took { TookPath steps.old steps.new (labels_below steps.old.zone sought.now.name)
         (missed result) }
 {
     let octets = sought.name.octets();
@@ -96,13 +96,13 @@ pub(crate) fn walk<'z>(
     'labels: while before > 0 {
         let label = label_after(octets, &starts, before - 1);
         let Some(child) = or_start(&node, &*start).down(label, steps) else {
-            return Way::Encloser(node);
+            return PathEnd::Encloser(node);
         };
         if matches!(cuts, Cuts::End) && child.set(RType::NS).is_some() {
-            return Way::Cut(child);
+            return PathEnd::Cut(child);
         }
         node = Some(child);
         before -= 1;
     }
-    Way::Name(node)
+    PathEnd::Name(node)
 }

@@ -5,16 +5,16 @@ ghost use Rattle.dns_spec.specs.Records.{ZoneContents};
 ghost use Rattle.dns_spec.specs.Reading.{Spells};
 ghost use Rattle.dns_spec.specs.Query.{is_ignored};
 ghost use Rattle.dns_spec.specs.Reply.{answered, decide, reply, reply_message, octets_of};
-ghost use Rattle.dns_answer.specs.Draft.{empty_draft};
-ghost use Rattle.dns_answer.specs.DraftForm.{Holds};
+ghost use Rattle.dns_answer.specs.OfferedReply.{empty_draft};
+ghost use Rattle.dns_answer.specs.ReplyBuilderForm.{Holds};
 ghost use Rattle.dns_answer.specs.Limits.{limit_of};
 ghost use Rattle.dns_zone.specs.Starts.{IsBelow};
 ghost use Rattle.dns_answer.specs.Replies.{JudgedAs, IsPut, IsHeaded, Costs, Responds, visits_for, names_for, comparisons_for};
 
 use crate::chain::seek;
-use crate::draft::Draft;
+use crate::reply_builder::ReplyBuilder;
 use dns_name::Name;
-use dns_wire::{CLASS_IN, Head, QueryRef, QuestionRef, Rcode, lent_query};
+use dns_wire::{CLASS_IN, Head, QueryRef, QuestionRef, Rcode, query_ref};
 use dns_zone::{Sought, Steps};
 
 /// The greatest length of a reply, which depends on the transport.
@@ -39,10 +39,10 @@ impl Limit {
 }
 
 /// Room for replies over UDP.
-pub type UdpDraft = Draft<256, 512>;
+pub type UdpBuilder = ReplyBuilder<256, 512>;
 
 /// Room for replies over TCP; a value takes about 131,000 octets.
-pub type TcpDraft = Draft<8192, 65_535>;
+pub type TcpBuilder = ReplyBuilder<8192, 65_535>;
 
 /// Writes the reply to a datagram to the front of `out` and returns its length in octets.
 ///
@@ -54,8 +54,8 @@ pub type TcpDraft = Draft<8192, 65_535>;
 /// Preconditions: `steps` is a new walk, with counts of 0, and `out` is as long as the limit.
 /// Does not allocate. No name is looked up unless a question is answered.
 ///
-/// Each call first sets all octets of a draft to zero, which over TCP takes far longer than making
-/// a short reply. To answer many messages, keep a draft and call `respond_in`.
+/// Each call first sets all octets of a builder to zero, which over TCP takes far longer than making
+/// a short reply. To answer many messages, keep a builder and call `respond_in`.
 #[tactic(auto, using(crate::proofs::SentReplies::put_room, crate::proofs::SentReplies::put_absent, crate::proofs::SentReplies::put_octets, crate::proofs::SentReplies::put_spells, crate::proofs::SentReplies::put_fits))]
 pub fn respond(
     steps: &mut Steps<'_>,
@@ -86,8 +86,8 @@ pub fn respond(
         ≤ comparisons_for steps.old.zone (decide steps.old.zone datagram.now) steps.new.visits }
 {
     match limit {
-        Limit::Udp => put_reply(respond_in(steps, datagram, &mut UdpDraft::new()), out),
-        Limit::Tcp => put_reply(respond_in(steps, datagram, &mut TcpDraft::new()), out),
+        Limit::Udp => put_reply(respond_in(steps, datagram, &mut UdpBuilder::new()), out),
+        Limit::Tcp => put_reply(respond_in(steps, datagram, &mut TcpBuilder::new()), out),
     }
 }
 
@@ -102,37 +102,37 @@ fn put_reply(reply: Option<&[u8]>, out: &mut [u8]) -> Option<usize>
     Some(reply.len())
 }
 
-/// Makes the reply to a datagram in a draft, and lends it from there: the reply that `respond`
-/// writes, with the draft's `SIZE` as the limit. `None` if the datagram gets no reply.
+/// Makes the reply to a datagram in a builder, and lends it from there: the reply that `respond`
+/// writes, with the builder's `SIZE` as the limit. `None` if the datagram gets no reply.
 ///
-/// Nothing of an earlier reply in the draft remains, and the time does not depend on `SIZE`.
+/// Nothing of an earlier reply in the builder remains, and the time does not depend on `SIZE`.
 ///
 /// Precondition: `steps` is a new walk, with counts of 0. Does not allocate.
 pub fn respond_in<'d, const N: usize, const SIZE: usize>(
     steps: &mut Steps<'_>,
     datagram: &[u8],
-    draft: &'d mut Draft<N, SIZE>,
+    builder: &'d mut ReplyBuilder<N, SIZE>,
 ) -> Option<&'d [u8]>
     requires visits { steps.old.visits ≡ 0 }
     requires comparisons { steps.old.comparisons ≡ 0 }
     ensures { Responds steps.old steps.new datagram.now SIZE (option_copied result) }
 {
-    draft.page.clear();
-    draft.is_full = false;
+    builder.message.clear();
+    builder.is_full = false;
     let origin = steps.origin();
-    match lent_query(datagram) {
+    match query_ref(datagram) {
         QueryRef::Absent => return None,
-        QueryRef::Refused(head) => draft.page.finish(head),
+        QueryRef::Refused(head) => builder.message.finish(head),
         QueryRef::Query(head, question) => {
-            draft.page.put_question(&question);
+            builder.message.put_question(&question);
             let head = match judge(&question, origin) {
                 Err(rcode) => head.reply(false, false, rcode),
-                Ok(sought) => put_answer(steps, &head, &question, sought, draft),
+                Ok(sought) => put_answer(steps, &head, &question, sought, builder),
             };
-            draft.page.finish(head);
+            builder.message.finish(head);
         }
     }
-    Some(draft.page.octets())
+    Some(builder.message.octets())
 }
 
 // The name to seek, or the RCODE of a refusal: the question's class is tested first, then its
@@ -147,27 +147,27 @@ fn judge<'q>(question: &QuestionRef<'q>, origin: &Name) -> Result<Sought<'q>, Rc
     if matches!(question.qtype, 0 | 41 | 128..=254) {
         return Err(Rcode::NotImplemented);
     }
-    Sought::below(&question.name, &origin.lent()).ok_or(Rcode::Refused)
+    Sought::below(&question.name, &origin.borrowed()).ok_or(Rcode::Refused)
 }
 
-// Offers the sets of an answer to a draft that contains only the question, and returns the header.
+// Offers the sets of an answer to a builder that contains only the question, and returns the header.
 fn put_answer<'q, 'z: 'q, const N: usize, const SIZE: usize>(
     steps: &mut Steps<'z>,
     head: &Head,
     question: &QuestionRef<'q>,
     sought: Sought<'q>,
-    draft: &mut Draft<N, SIZE>,
+    builder: &mut ReplyBuilder<N, SIZE>,
 ) -> Head
-    requires begun { Holds draft.old (empty_draft question.now SIZE) }
+    requires begun { Holds builder.old (empty_draft question.now SIZE) }
     requires visits { steps.old.visits ≡ 0 }
     requires comparisons { steps.old.comparisons ≡ 0 }
     requires asked { sought.name ≡ question.now.qname }
     requires below { IsBelow sought steps.old.zone.origin }
-    ensures reply { IsHeaded steps.old.zone SIZE (answered head.now question.now) draft.new result }
+    ensures reply { IsHeaded steps.old.zone SIZE (answered head.now question.now) builder.new result }
     ensures costs { Costs (answered head.now question.now) steps.old steps.new }
 {
     let apex = steps.apex();
-    let (verdict, followed_alias) = seek(sought, question.qtype, &apex, steps, draft);
+    let (verdict, followed_alias) = seek(sought, question.qtype, &apex, steps, builder);
     // AA is set, unless the reply is only a referral (RFC 1035 4.1.1).
     let only_refers = verdict.is_referral && !followed_alias;
     head.reply(!only_refers, verdict.is_truncated, verdict.rcode)

@@ -6,7 +6,7 @@ ghost use Rattle.slab.specs.Slab.{slab_len};
 
 use crate::peer::{Next, PIECE, Peer, Served};
 use crate::sockets::{Found, Sockets, Stopped};
-use dns_answer::TcpDraft;
+use dns_answer::TcpBuilder;
 use dns_serve::StreamFault;
 use dns_zone::Zone;
 use slab::Slab;
@@ -62,7 +62,7 @@ impl Served for Brand {
 
 /// How many connections are served at once.
 #[derive(Clone, Copy, Debug, PartialEq, Eq)]
-pub enum Places {
+pub enum Capacity {
     /// One, while others wait. It is closed if it sends nothing for 2 seconds after it was
     /// accepted, or for 0.3 seconds after a reply. 10 seconds after it was accepted, no new message
     /// may begin.
@@ -96,7 +96,7 @@ pub fn serve_connections<K, E, B>(
     sockets: K,
     turns: u32,
     most: u64,
-    places: Places,
+    capacity: Capacity,
     begin: B,
 ) -> Result<K, E>
 where
@@ -111,7 +111,7 @@ where
     let plan = Plan {
         turns,
         most,
-        places,
+        capacity,
     };
     serve::<Brand, K, E, B>(alloc, zone, sockets, plan, begin)
 }
@@ -121,7 +121,7 @@ where
 struct Plan {
     turns: u32,
     most: u64,
-    places: Places,
+    capacity: Capacity,
 }
 
 fn serve<Z, K, E, B>(alloc: Global, zone: &Zone, sockets: K, plan: Plan, begin: B) -> Result<K, E>
@@ -162,7 +162,7 @@ struct Connections<'z, Z: Served, K: Sockets> {
     ready: VecDeque<usize>,
     is_ready: [bool; KEYS],
     alloc: Global,
-    draft: TcpDraft,
+    builder: TcpBuilder,
     room: [u8; PIECE],
     plan: Plan,
     // How many connections may still be accepted.
@@ -198,7 +198,7 @@ impl<'z, Z: Served, K: Sockets> Connections<'z, Z, K> {
             zone,
             sockets,
             alloc,
-            draft: TcpDraft::new(),
+            builder: TcpBuilder::new(),
             room: [0; PIECE],
             left: plan.turns,
             plan,
@@ -229,7 +229,7 @@ impl<'z, Z: Served, K: Sockets> Connections<'z, Z, K> {
 
     // From now on the server is to end. What the connections have asked by now is still read.
     fn begin_end(&mut self, now: Duration) {
-        if self.ends.is_none() && self.plan.places == Places::Many {
+        if self.ends.is_none() && self.plan.capacity == Capacity::Many {
             self.ends = Some(after(now, ENDING));
             'peers: for key in 0..KEYS {
                 self.mark(key);
@@ -239,7 +239,7 @@ impl<'z, Z: Served, K: Sockets> Connections<'z, Z, K> {
 
     // Whether a connection may wait that can be accepted now.
     fn accepts(&self, now: Duration) -> bool {
-        let has_place = self.plan.places == Places::Many || self.peers.is_empty();
+        let has_place = self.plan.capacity == Capacity::Many || self.peers.is_empty();
         self.may_accept && self.left > 0 && has_place && now >= self.accepts
     }
 
@@ -362,7 +362,7 @@ impl<'z, Z: Served, K: Sockets> Connections<'z, Z, K> {
         let Some(peer) = self.peers.get_mut(key) else {
             return;
         };
-        match peer.turn(self.zone, &mut self.draft, &mut self.room, now) {
+        match peer.turn(self.zone, &mut self.builder, &mut self.room, now) {
             Ok(Next::GoesOn) => self.mark(key),
             Ok(Next::Waits) => {}
             Ok(Next::Ends) => self.close(key),
@@ -404,15 +404,15 @@ impl<'z, Z: Served, K: Sockets> Connections<'z, Z, K> {
         let fault = peer.lateness();
         // From then on no message may begin if others wait.
         let end = after(peer.accepted, LIMIT);
-        match (self.plan.places, fault) {
-            (Places::Many, None) if self.ends.is_some() => (after(peer.since, SILENCE), None),
-            (Places::Many, _) => (after(peer.since, LIMIT), fault),
-            (Places::One, None) if peer.since == peer.accepted => {
+        match (self.plan.capacity, fault) {
+            (Capacity::Many, None) if self.ends.is_some() => (after(peer.since, SILENCE), None),
+            (Capacity::Many, _) => (after(peer.since, LIMIT), fault),
+            (Capacity::One, None) if peer.since == peer.accepted => {
                 (after(peer.since, FIRST), Some(StreamFault::SourceFailed))
             }
-            (Places::One, None) => (after(peer.since, SILENCE).min(end), None),
-            (Places::One, Some(StreamFault::SourceFailed)) if peer.since >= end => (end, None),
-            (Places::One, _) => (after(peer.since, LIMIT).min(after(end, LIMIT)), fault),
+            (Capacity::One, None) => (after(peer.since, SILENCE).min(end), None),
+            (Capacity::One, Some(StreamFault::SourceFailed)) if peer.since >= end => (end, None),
+            (Capacity::One, _) => (after(peer.since, LIMIT).min(after(end, LIMIT)), fault),
         }
     }
 }

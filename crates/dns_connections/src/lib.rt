@@ -5,5 +5,5 @@ mod connections;
 mod peer;
 mod sockets;
 
-pub use connections::{Places, serve_connections};
+pub use connections::{Capacity, serve_connections};
 pub use sockets::{Found, Sockets, Stopped, Stream};

@@ -4,7 +4,7 @@ ghost use Rattle.dns_spec.specs.Records.{ZoneContents};
 ghost use Rattle.dns_connections.specs.Exchanges.{SocketsState, IsFresh, IsServing, IsServed};
 
 use crate::sockets::{Stopped, Stream};
-use dns_answer::TcpDraft;
+use dns_answer::TcpBuilder;
 use dns_serve::{Session, StreamFault};
 use dns_zone::Zone;
 use std::alloc::Global;
@@ -112,7 +112,7 @@ impl<Z: Served, S: Stream> Peer<Z, S> {
     pub(crate) fn turn(
         &mut self,
         zone: &Zone,
-        draft: &mut TcpDraft,
+        builder: &mut TcpBuilder,
         room: &mut [u8; PIECE],
         now: Duration,
     ) -> Result<Next, StreamFault>
@@ -134,7 +134,7 @@ impl<Z: Served, S: Stream> Peer<Z, S> {
             }
         }
         let left = self.session.left();
-        self.answer(zone, draft);
+        self.answer(zone, builder);
         if self.session.left() < left {
             self.since = now;
         }
@@ -175,12 +175,12 @@ impl<Z: Served, S: Stream> Peer<Z, S> {
     }
 
     // Answers the pending octets, as far as there is room for replies.
-    fn answer(&mut self, zone: &Zone, draft: &mut TcpDraft)
+    fn answer(&mut self, zone: &Zone, builder: &mut TcpBuilder)
         requires zone { zone.now ≡ Z.zone }
         requires pending { self.old.taken < vec_len self.old.input }
     {
         let (_, pending) = self.input.split_at(self.taken);
-        let rest = self.session.take(zone, pending, draft);
+        let rest = self.session.take(zone, pending, builder);
         self.taken = self.input.len() - rest.len();
     }
 

@@ -15,9 +15,9 @@ pub use Rattle.dns_master.specs.SourceForm.{AppendsPiece, Decides, IsRead, Reads
 pub use Rattle.dns_master.specs.TokenForm.{by_itself, shown_token}
 pub use Rattle.dns_master.specs.WordsForm.{Found, KeptAndCounted, words_from, words_in, words_of_first}
 pub use Rattle.dns_master.specs.WordsLeft.{later_words, words_left}
-pub use Rattle.dns_master.specs.declared.fault.ReadCode.{ReadCode}
-pub use Rattle.dns_master.specs.declared.fault.ReadCode.TheVariants.{BadData, BadType, DirectiveWords, NoMemory, NoTtl, OtherClass, Parenthesis, TooLong, TooManyRecords}
-pub use Rattle.dns_master.specs.declared.fault.ReadFault.{ReadFault}
+pub use Rattle.dns_master.specs.declared.read_fault.ReadCode.{ReadCode}
+pub use Rattle.dns_master.specs.declared.read_fault.ReadCode.TheVariants.{BadData, BadType, DirectiveWords, NoMemory, NoTtl, OtherClass, Parenthesis, TooLong, TooManyRecords}
+pub use Rattle.dns_master.specs.declared.read_fault.ReadFault.{ReadFault}
 pub use Rattle.dns_master.specs.declared.run.RunKind.{RunKind}
 pub use Rattle.dns_master.specs.declared.run.TheConstants.{PLAIN_IN}
 pub use Rattle.dns_master.specs.declared.state.Reader.{Reader}

@@ -15,7 +15,7 @@ use Rattle.std.specs.Prelude.{◌↔◌, ◌<◌, Result, Ok, Err, is_err, IfOk,
 use Rattle.dns_master.proofs.Common.{ReadCode, DirectiveWords, fault_of, length-drop, cond, LastOwner}
 use Rattle.dns_spec.specs.NameText.{name_fault}
 use Rattle.dns_master.proofs.Common.{if◌then◌else◌}
-use Rattle.dns_master.specs.declared.fault.ReadCode.TheVariants.{BadOwner}
+use Rattle.dns_master.specs.declared.read_fault.ReadCode.TheVariants.{BadOwner}
 use Rattle.dns_master.specs.declared.earlier.Earlier.{Earlier}
 use Rattle.dns_master.specs.declared.judge.Blame.{Blame}
 use Rattle.dns_master.specs.JudgeForm.{BlamedWord, Blamed, KindOwn, NeverGives, FieldsGive, OwnedGives, FieldsDetail, FieldsBlamed, words_to, one_unless}

@@ -2,7 +2,7 @@
 use Rattle.dns_master.proofs.Common.{◌≡◌, ℕ, zero, suc, ◌+◌, ◌-◌, Bool, true, false, cond, ◌&&◌, not, List, [], ◌∷◌, length, take, refl, sym, ap, ap₂, ◌∙◌, subst, inl, inr, arith, Option, Some, None, list_any, Octets, DomainName, Word, ResourceRecord, Entry, FileFault, bad_parenthesis, bad_data, bad_owner, bad_type, no_owner, no_ttl, other_class, too_many_records, directive_words, too_long, EntryMeaning, faulty, gives, EntryGives, KindGives, kind_of, kind_by_words, Token, token_front, parentheses, is_line_end, open_after, take_turns, is_blank, is_blank_token, begins_blank, extent_by, word_of, nat_lt, cons_option}
 use Rattle.dns_spec.specs.FileFaults.{bad_octet, bad_escape, unended_string, unknown_directive, bad_ttl, unreadable, no_memory}
 use Rattle.dns_spec.specs.ZoneText.{lexical_fault}
-use Rattle.dns_spec.specs.EntryPlaces.{PlacedToken, PlacedEntry, Place, Ending, after_line, at_parenthesis, at_stop, is_misplaced, after_token, ending_fault}
+use Rattle.dns_spec.specs.EntryPlaces.{PlacedToken, PlacedEntry, Span, Ending, after_line, at_parenthesis, at_stop, is_misplaced, after_token, ending_fault}
 use Rattle.std.specs.Prelude.{map}
 use Rattle.std.specs.List.{filter_map}
 unfoldable use Rattle.dns_spec.specs.EntryPlaces.{read_entry}
@@ -22,7 +22,7 @@ use Rattle.dns_master.specs.EarlierForm.{OriginAfter}
 use Rattle.dns_master.specs.ScanForm.{shown_place, shown_ending}
 use Rattle.std.proofs.lemmas.List.{drop-map}
 use Rattle.dns_master.proofs.Common.{drop_all, ◌≤◌}
-use Rattle.dns_master.specs.declared.places.Place.{Place as CodePlace}
+use Rattle.dns_master.specs.declared.scan.Span.{Span as CodePlace}
 use Rattle.dns_master.specs.declared.judge.Blame.{Blame}
 use Rattle.dns_master.specs.declared.scanned.EntryFault.{EntryFault}
 use Rattle.dns_master.specs.declared.scanned.ScannedEntry.{ScannedEntry}
@@ -221,13 +221,13 @@ module _ (o : DomainName) (earlier : List Entry) (s : ScannedEntry) (h : EntrySc
   spot-is i = ap₂ (λ ps n. first_place (drop i ps) (empty_place n))
       (sym h.scanned.places_are) (sym ends-are)
 
-  word-place : (i : ℕ) (place : Place) (fault : FileFault)
+  word-place : (i : ℕ) (place : Span) (fault : FileFault)
       → FaultyWord o earlier (kind_of at.entry) fault i
       → place ≡ first_place (drop i (map shown_place s.places.now)) (empty_place s.read.ends)
       → (j : ℕ) × FaultyWord o earlier (kind_of at.entry) fault j × (place ≡ place_after j at)
   word-place i place fault w is = (i, w, is ∙ spot-is i)
 
-  pub place-is : (fault : FileFault) (i : ℕ) (place : Place)
+  pub place-is : (fault : FileFault) (i : ℕ) (place : Span)
       → BlamedWord o earlier (kind_of at.entry) fault i
       → place ≡ spot_by fault i s → PlaceIs o earlier at fault place
   place-is no_owner i place w is = is
@@ -307,7 +307,7 @@ ending-lexical x (at_parenthesis place) fault is =
     ap is_lexical (sym (same_Some bad_parenthesis fault is))
 ending-lexical x (at_stop b rest) fault is = stop-lexical x b (stop_at rest) fault is
 
-module _ (o : DomainName) (earlier : List Entry) (e : PlacedEntry) (place : Place) where
+module _ (o : DomainName) (earlier : List Entry) (e : PlacedEntry) (place : Span) where
   stop-number : (fault : FileFault) → is_lexical fault ≡ true
       → NumberIs o earlier (kind_of e.entry) fault None
   unfolding is_lexical
@@ -429,13 +429,13 @@ module _ (s : ScannedEntry) (h : EntryScanned s) where
           }
 
 -- the place of the word after n words
-pub past_spot : (spots : List CodePlace) (n : ℕ) (otherwise : Place) → length spots ≤ n
+pub past_spot : (spots : List CodePlace) (n : ℕ) (otherwise : Span) → length spots ≤ n
     → otherwise ≡ first_place (drop n (map shown_place spots)) otherwise
 past_spot spots n otherwise few =
     sym (ap (λ ps. first_place ps otherwise)
     (drop-map shown_place n spots ∙ ap (map shown_place) (drop_all n spots few)))
 
-pub spot_at : (spots later : List CodePlace) (n : ℕ) (otherwise : Place)
+pub spot_at : (spots later : List CodePlace) (n : ℕ) (otherwise : Span)
     → later ≡ drop n spots
     → first_place (map shown_place later) otherwise
     ≡ first_place (drop n (map shown_place spots)) otherwise

@@ -10,8 +10,8 @@ use Rattle.dns_spec.specs.EntryPlaces.{PlacedToken, Ending, after_line, at_paren
 unfoldable use Rattle.dns_spec.specs.EntryPlaces.{read_entry}
 use Rattle.dns_spec.proofs.Common.{filter_map-append}
 use Rattle.dns_master.specs.ScanForm.{words_read, shown_place, shown_ending, ScansEntry}
-use Rattle.dns_master.specs.declared.places.Place.{Place}
-use Rattle.dns_master.specs.declared.places.EntryScan.{EntryScan}
+use Rattle.dns_master.specs.declared.scan.Span.{Span}
+use Rattle.dns_master.specs.declared.scan.EntryScan.{EntryScan}
 use Rattle.dns_master.specs.EntryForm.{Step}
 
 step_code : Step → ℕ
@@ -97,7 +97,7 @@ token_at before text rest others p =
 
 -- the tokens so far, and that reading goes on behind them
 pub record ReadSoFar (text : Octets) (before : ℕ) (b : Bool) (rest : Octets)
-    (words : List Word) (spots : List Place) : Type 0 where
+    (words : List Word) (spots : List Span) : Type 0 where
   pub left : ℕ
   pub enough : length rest ≤ left
   pub short : length rest ≤ length text
@@ -111,7 +111,7 @@ pub record ReadSoFar (text : Octets) (before : ℕ) (b : Bool) (rest : Octets)
   pub places_are : map shown_place spots ≡ filter_map word_place tokens
 
 module _ (text : Octets) (before : ℕ) (b : Bool) (rest : Octets) (words : List Word)
-    (spots : List Place) (so : ReadSoFar text before b rest words spots) where
+    (spots : List Span) (so : ReadSoFar text before b rest words spots) where
   abbrev here : ℕ
   here = before + (length text - length rest)
 
@@ -179,11 +179,11 @@ module _ (text : Octets) (before : ℕ) (b : Bool) (rest : Octets) (words : List
         ∙ sym (filter_map-append (λ (q : PlacedToken). word_of q.token) so.tokens (one ∷ []))
 
     -- the places with that of one more token
-    abbrev OneMore : List Place → Type 0
+    abbrev OneMore : List Span → Type 0
     OneMore spots' = map shown_place spots'
         ≡ map shown_place spots ++ filter_map word_place (one ∷ [])
 
-    places_and : (spots' : List Place) → OneMore spots'
+    places_and : (spots' : List Span) → OneMore spots'
         → map shown_place spots' ≡ filter_map word_place (so.tokens ++ one ∷ [])
     places_and spots' is =
         is ∙ ap₂ (λ x y. x ++ y) so.places_are refl
@@ -212,7 +212,7 @@ module _ (text : Octets) (before : ℕ) (b : Bool) (rest : Octets) (words : List
         }
 
     pub scan-on : (now : Bool) → step b p ≡ onward now → (words' : List Word)
-        → words' ≡ words ++ token_words (p ∷ []) → (spots' : List Place) → OneMore spots'
+        → words' ≡ words ++ token_words (p ∷ []) → (spots' : List Span) → OneMore spots'
         → ReadSoFar text before now others words' spots'
     scan-on now e words' is spots' spots_are =
         let j = some_left so.left so.enough in
@@ -241,13 +241,13 @@ unfolding step_code
 over-none b p e = grind (arith, (ap step_code e))
 
 -- a token that is no word adds no place
-pub no_place : (before : ℕ) (text rest others : Octets) (p : Token) (spots : List Place)
+pub no_place : (before : ℕ) (text rest others : Octets) (p : Token) (spots : List Span)
     → word_of p ≡ None → map shown_place spots
     ≡ map shown_place spots ++ filter_map word_place (token_at before text rest others p ∷ [])
 no_place before text rest others p spots e = rw e (sym (append-nil (map shown_place spots)))
 
 pub one_place : (before : ℕ) (text rest others : Octets) (p : Token) (w : Word)
-    (spots spots' : List Place) (place : Place) → word_of p ≡ Some w
+    (spots spots' : List Span) (place : Span) → word_of p ≡ Some w
     → spots' ≡ spots ++ place ∷ []
     → shown_place place ≡ (token_at before text rest others p).place
     → map shown_place spots'
@@ -263,7 +263,7 @@ one_place before text rest others p w spots spots' place e grown is =
     by_word v e = rw e refl
 
 pub no_place_over : (b : Bool) (before : ℕ) (text rest others : Octets) (p : Token)
-    (spots : List Place) → step b p ≡ over → map shown_place spots
+    (spots : List Span) → step b p ≡ over → map shown_place spots
     ≡ map shown_place spots ++ filter_map word_place (token_at before text rest others p ∷ [])
 no_place_over b before text rest others p spots e =
     no_place before text rest others p spots (over-none b p e)

@@ -1,9 +1,9 @@
 -- The fault for each code, and the code's number.
 use Rattle.std.specs.Prelude.{◌≡◌, ◌≢◌, ℕ, ◌+◌, ◌==◌, ◌⊎◌, if◌then◌else◌, Result, Ok, Err}
 use Rattle.dns_spec.specs.FileFaults.{FileFault, fault_code, bad_octet, bad_escape, unended_string, bad_parenthesis, unknown_directive, directive_words, bad_owner, no_owner, bad_ttl, other_class, bad_type, no_ttl, bad_data, too_many_records, too_long, unreadable, no_memory}
-use Rattle.dns_master.specs.declared.fault.ReadCode.{ReadCode}
-use Rattle.dns_master.specs.declared.fault.ReadFault.{ReadFault}
-use Rattle.dns_master.specs.declared.fault.ReadCode.TheVariants.{BadOctet, BadEscape, UnendedString, Parenthesis, UnknownDirective, DirectiveWords, BadOwner, NoOwner, BadTtl, OtherClass, BadType, NoTtl, BadData, TooManyRecords, TooLong, SourceFailed, NoMemory}
+use Rattle.dns_master.specs.declared.read_fault.ReadCode.{ReadCode}
+use Rattle.dns_master.specs.declared.read_fault.ReadFault.{ReadFault}
+use Rattle.dns_master.specs.declared.read_fault.ReadCode.TheVariants.{BadOctet, BadEscape, UnendedString, Parenthesis, UnknownDirective, DirectiveWords, BadOwner, NoOwner, BadTtl, OtherClass, BadType, NoTtl, BadData, TooManyRecords, TooLong, SourceFailed, NoMemory}
 
 abbrev pub fault_of : ReadCode → FileFault
 fault_of BadOctet = bad_octet

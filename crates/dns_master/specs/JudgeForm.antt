@@ -14,10 +14,10 @@ use Rattle.dns_master.specs.Codes.{fault_of}
 use Rattle.dns_master.specs.EarlierForm.{LooksBack, OriginAfter}
 use Rattle.dns_master.specs.declared.earlier.Earlier.{Earlier}
 use Rattle.dns_master.specs.declared.judge.Blame.{Blame}
-use Rattle.dns_master.specs.declared.fault.ReadCode.TheVariants.{NoMemory, BadData}
+use Rattle.dns_master.specs.declared.read_fault.ReadCode.TheVariants.{NoMemory, BadData}
 use Rattle.dns_rdata.specs.RdataFault as rdata
-use Rattle.dns_rdata.specs.declared.fault.RdataFault.{RdataFault}
-use Rattle.dns_rdata.specs.declared.fault.RdataFault.TheVariants.{NoMemory as Refused}
+use Rattle.dns_rdata.specs.declared.rdata_fault.RdataFault.{RdataFault}
+use Rattle.dns_rdata.specs.declared.rdata_fault.RdataFault.TheVariants.{NoMemory as Refused}
 
 -- the number of words before the one at fault, unless the fault is that of the whole entry
 abbrev pub BlamedWord : DomainName → List Entry → EntryKind → FileFault → ℕ → Type 0

@@ -37,7 +37,7 @@ abbrev pub placed : ScannedEntry → PlacedEntry
 placed s = entry_at (length s.octets.now) s.past.now s.rest.now
 
 -- the place of a fault that is not lexical, if `i` words precede the one at fault
-abbrev pub spot_by : FileFault → ℕ → ScannedEntry → places.Place
+abbrev pub spot_by : FileFault → ℕ → ScannedEntry → places.Span
 spot_by no_owner i s = empty_place (length s.octets.now - length s.rest.now)
 spot_by too_many_records i s = empty_place (length s.octets.now - length s.rest.now)
 spot_by fault i s = first_place (drop i (map shown_place s.places.now)) (empty_place s.read.ends)

@@ -6,7 +6,7 @@ use Rattle.dns_spec.specs.Names.{Octets, DomainName}
 use Rattle.dns_spec.specs.Records.{ResourceRecord}
 use Rattle.dns_spec.specs.Meaning.{Meaning, Means, records, fault_at, most_records}
 use Rattle.dns_name.specs.Counted.{Counted}
-use Rattle.dns_master.specs.declared.fault.ReadFault.{ReadFault}
+use Rattle.dns_master.specs.declared.read_fault.ReadFault.{ReadFault}
 use Rattle.dns_master.specs.Codes.{OfFile, failures_after_read}
 
 -- a read appended at most `most` octets of the source; `more` is false only at the end of the

@@ -12,7 +12,7 @@ ghost use Rattle.dns_master.specs.Steps.{shown_step};
 ghost use Rattle.dns_master.specs.Codes.{ForFault, fault_of};
 
 use crate::entry_words::{LaterWords, word_of};
-use crate::fault::ReadCode;
+use crate::read_fault::ReadCode;
 use crate::run::{RunKind, after_blanks};
 use crate::token::{Token, first_token};
 use dns_rdata::Word;

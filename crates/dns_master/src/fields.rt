@@ -7,7 +7,7 @@ ghost use Rattle.dns_master.specs.RecordForm.{TtlOf, NamedType};
 ghost use Rattle.dns_master.specs.WordsLeft.{words_left};
 
 use crate::entry_words::EntryWords;
-use crate::fault::ReadCode;
+use crate::read_fault::ReadCode;
 use crate::words::{is_word, read_ttl};
 use dns_rdata::{RType, Word, Words};
 use std::marker::Model;

@@ -15,16 +15,16 @@ ghost use Rattle.dns_master.specs.WordsLeft.{words_left};
 
 use crate::earlier::Earlier;
 use crate::entry_words::EntryWords;
-use crate::fault::ReadCode;
 use crate::fields::{
     Fields, is_class_word, is_other_class, is_ttl_word, stated_ttl, type_and_words,
 };
 use crate::passing::spelled_owner;
+use crate::read_fault::ReadCode;
 use crate::reader::MOST_RECORDS;
 use crate::record::{Record, RecordBody};
 use crate::words::{is_word, read_ttl};
 use dns_name::Name;
-use dns_rdata::{DataRoom, Rdata, RdataFault, Word, Words};
+use dns_rdata::{DataBuffers, Rdata, RdataFault, Word, Words};
 
 /// Why an entry is faulty: the code; the number of an owner's or of data's fault; and the number of
 /// words of the entry before the one at fault, if a word is at fault.
@@ -56,7 +56,7 @@ impl Earlier {
         &self,
         is_blank_led: bool,
         words: EntryWords<'_, '_>,
-        room: &mut DataRoom,
+        room: &mut DataBuffers,
     ) -> Result<Option<Record>, Blame>
         requires few { length (words_left words) < 2 ^ 60 }
         requires known { IsKnown self.now }
@@ -86,7 +86,7 @@ impl Earlier {
         &self,
         first: &Word<'_>,
         words: EntryWords<'_, '_>,
-        room: &mut DataRoom,
+        room: &mut DataBuffers,
     ) -> Result<Option<Record>, Blame>
         requires few { length (words_left words) < 2 ^ 60 }
         requires known { IsKnown self.now }
@@ -162,7 +162,7 @@ impl Earlier {
         owner: &Name,
         before: usize,
         words: EntryWords<'_, '_>,
-        room: &mut DataRoom,
+        room: &mut DataBuffers,
     ) -> Result<Option<Record>, Blame>
         requires low { folded owner.now ≡ owner.now }
         requires few { length (words_left words) < 2 ^ 60 }
@@ -192,7 +192,7 @@ impl Earlier {
         &self,
         owner: &Name,
         fields: &Fields<'_, '_>,
-        room: &mut DataRoom,
+        room: &mut DataBuffers,
     ) -> Result<Option<RecordBody>, Blame>
         requires low { folded owner.now ≡ owner.now }
         requires known { IsKnown self.now }

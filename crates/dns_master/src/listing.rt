@@ -8,14 +8,14 @@ ghost use Rattle.dns_master.specs.EarlierForm.{LooksBack};
 ghost use Rattle.dns_master.specs.FaultListForm.{IsList, ListsOctets, ListsText, ReadsOctets, TakesEntry};
 
 use crate::earlier::Earlier;
-use crate::fault::{ReadCode, ReadFault};
 use crate::gathers::Gathers;
-use crate::places::{scan, text_after};
+use crate::read_fault::{ReadCode, ReadFault};
 use crate::record::Record;
+use crate::scan::{scan, text_after};
 use crate::scanned::{EntryFault, Judged, ScannedEntry};
 use crate::source::{MOST_FILE_OCTETS, PIECE, append_piece};
 use dns_name::{Name, Tally};
-use dns_rdata::DataRoom;
+use dns_rdata::DataBuffers;
 use std::alloc::{AllocError, Global};
 use std::io::Read;
 
@@ -111,7 +111,7 @@ fn list_octets<G: Gathers>(
         (G.gathered found.old) (G.gathered found.new)) }
 {
     let mut listing = Listing::none(alloc, origin);
-    let mut room = DataRoom::new(alloc);
+    let mut room = DataBuffers::new(alloc);
     let (mut words, mut places) = (Vec::new(alloc), Vec::new(alloc));
     let mut rest = octets;
     let mut left = octets.len() + 1;
@@ -161,7 +161,7 @@ impl Listing {
     fn take<G: Gathers>(
         &mut self,
         entry: &ScannedEntry<'_, '_>,
-        room: &mut DataRoom,
+        room: &mut DataBuffers,
         found: &mut G,
     ) -> Result<bool, AllocError>
         requires scanned { EntryScanned entry.now }

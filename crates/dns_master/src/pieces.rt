@@ -5,13 +5,13 @@ ghost use Rattle.dns_master.specs.Codes.{OfEntry, OfFile, failures_after_read};
 ghost use Rattle.dns_master.specs.ReaderForm.{Knows, handed};
 ghost use Rattle.dns_master.specs.PieceForm.{FrontFaulty, FrontGathered, PieceTaken, PieceFaulty, ReaderMeans, TextGathered};
 
-use crate::fault::{ReadCode, ReadFault, entry_fault};
 use crate::gathers::Gathers;
+use crate::read_fault::{ReadCode, ReadFault, entry_fault};
 use crate::record::Record;
 use crate::source::{MOST_FILE_OCTETS, PIECE, append_piece};
 use crate::state::Reader;
 use dns_name::{Name, Tally};
-use dns_rdata::{DataRoom, RType, Rdata};
+use dns_rdata::{DataBuffers, RType, Rdata};
 use std::alloc::Global;
 use std::io::Read;
 
@@ -21,7 +21,7 @@ use std::io::Read;
 pub(crate) struct Begun {
     alloc: Global,
     pub(crate) reader: Reader,
-    room: DataRoom,
+    room: DataBuffers,
     pub(crate) held: Vec<u8>,
     /// The number of octets held after the last attempt to take entries. The next attempt waits
     /// until twice as many are held, so that an entry of many pieces is read in linear time.
@@ -55,7 +55,7 @@ impl Begun {
         Begun {
             alloc,
             reader,
-            room: DataRoom::new(alloc),
+            room: DataBuffers::new(alloc),
             held: Vec::new(alloc),
             left: MOST_FILE_OCTETS,
             tried: 0,
@@ -163,7 +163,7 @@ impl Begun {
 fn take_entries<'a, G: Gathers>(
     alloc: Global,
     reader: &mut Reader,
-    room: &mut DataRoom,
+    room: &mut DataBuffers,
     text: &'a [u8],
     goes_on: Option<bool>,
     found: &mut G,

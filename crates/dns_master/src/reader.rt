@@ -13,17 +13,17 @@ ghost use Rattle.dns_master.specs.WordsLeft.{words_left};
 use crate::directive::{read_default_ttl, read_origin};
 use crate::entry::{is_whole, read_entry};
 use crate::entry_words::EntryWords;
-use crate::fault::{ReadCode, ReadFault};
 use crate::fields::{Fields, is_other_class, stated_ttl, type_and_words};
 use crate::gathers::{Gathers, WholeRecords};
 use crate::pieces::Begun;
+use crate::read_fault::{ReadCode, ReadFault};
 use crate::record::{Record, RecordBody};
 use crate::run::is_blank;
 use crate::source::{PIECE, append_piece};
 use crate::state::Reader;
 use crate::words::is_word;
 use dns_name::{Name, Tally};
-use dns_rdata::{DataRoom, Rdata, Word, Words};
+use dns_rdata::{DataBuffers, Rdata, Word, Words};
 use std::alloc::Global;
 use std::io::Read;
 use std::mem::replace;
@@ -96,7 +96,7 @@ impl Reader {
         text: &'a [u8],
         goes_on: Option<bool>,
         words: &mut Vec<Word<'a>>,
-        room: &mut DataRoom,
+        room: &mut DataBuffers,
     ) -> Result<Option<(bool, &'a [u8])>, ReadCode>
         requires some { text.now ≢ [] }
         requires fits { self.old.line + length text.now ≤ 16777217 }
@@ -128,7 +128,7 @@ impl Reader {
         &mut self,
         is_blank_led: bool,
         words: EntryWords<'_, '_>,
-        room: &mut DataRoom,
+        room: &mut DataBuffers,
     ) -> Result<bool, ReadCode>
         ensures ok { IfOk result (λ taken. TakesEntry self.old
             (kind_by_words is_blank_led (words_left words.entry))
@@ -189,7 +189,7 @@ impl Reader {
     fn take_record(
         &mut self,
         words: EntryWords<'_, '_>,
-        room: &mut DataRoom,
+        room: &mut DataBuffers,
     ) -> Result<(), ReadCode>
         ensures ok { OnOk result (TakesRecord self.old (fields (words_left words.entry)) self.new) }
         ensures counted { OnOk result (self.new.count ≡ self.old.count + 1) }
@@ -210,7 +210,7 @@ impl Reader {
     fn read_body(
         &self,
         fields: &Fields<'_, '_>,
-        room: &mut DataRoom,
+        room: &mut DataBuffers,
     ) -> Result<RecordBody, ReadCode>
         ensures ok { IfOk result (λ body. RecordMeans self.now fields.now
             (gives (with_owner self.now.last.owner body ∷ []))) }

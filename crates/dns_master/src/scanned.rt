@@ -13,12 +13,12 @@ ghost use Rattle.dns_master.specs.WordsLeft.{words_left};
 
 use crate::earlier::Earlier;
 use crate::entry_words::{EntryWords, LaterWords};
-use crate::fault::ReadCode;
 use crate::judge::Blame;
-use crate::places::{EntryScan, Place, ending_fault, stop_place};
+use crate::read_fault::ReadCode;
 use crate::record::Record;
 use crate::run::is_blank;
-use dns_rdata::{DataRoom, Word};
+use crate::scan::{EntryScan, Span, ending_fault, stop_place};
+use dns_rdata::{DataBuffers, Word};
 use std::alloc::AllocError;
 
 /// A fault of a file: its code; the number of an owner's fault or of data's; its place; and the
@@ -30,7 +30,7 @@ pub struct EntryFault {
     /// The number of the fault of an owner's name, or of the data.
     pub number: Option<u8>,
     /// The place.
-    pub place: Place,
+    pub place: Span,
     /// The number of octets before the entry.
     pub entry: usize,
 }
@@ -50,13 +50,17 @@ pub(crate) struct ScannedEntry<'a, 'w> {
     pub(crate) past: &'w [u8],
     pub(crate) rest: &'w [u8],
     pub(crate) words: &'a [Word<'w>],
-    pub(crate) places: &'a [Place],
+    pub(crate) places: &'a [Span],
     pub(crate) read: EntryScan<'w>,
 }
 
 impl ScannedEntry<'_, '_> {
     /// The record of the entry, or its fault.
-    pub(crate) fn judge(&self, earlier: &Earlier, room: &mut DataRoom) -> Result<Judged, AllocError>
+    pub(crate) fn judge(
+        &self,
+        earlier: &Earlier,
+        room: &mut DataBuffers,
+    ) -> Result<Judged, AllocError>
         requires scanned { EntryScanned self.now }
         requires known { IsKnown earlier.now }
         ensures { IfOk result (Judges earlier.now (placed self.now)) }
@@ -124,7 +128,7 @@ impl ScannedEntry<'_, '_> {
         ensures entry { result.entry ≡ length self.now.octets.now - length self.now.rest.now }
     {
         let place = match blame.code {
-            ReadCode::NoOwner | ReadCode::TooManyRecords => Place::empty(self.before()),
+            ReadCode::NoOwner | ReadCode::TooManyRecords => Span::empty(self.before()),
             _ => self.place_after(blame.words),
         };
         EntryFault {
@@ -137,17 +141,17 @@ impl ScannedEntry<'_, '_> {
 
     // The place of the word after `number` words; the end of the entry if it has no such word.
     #[tactic(auto, using(crate::proofs::ListingSteps::past_spot, crate::proofs::ListingSteps::spot_at))]
-    fn place_after(&self, number: usize) -> Place
+    fn place_after(&self, number: usize) -> Span
         ensures { shown_place result ≡ first_place
             (drop number (map shown_place self.now.places.now)) (empty_place self.now.read.ends) }
     {
         if number >= self.places.len() {
-            return Place::empty(self.read.ends);
+            return Span::empty(self.read.ends);
         }
         let (_, later) = self.places.split_at(number);
         match later.split_first() {
             Some((place, _)) => *place,
-            None => Place::empty(self.read.ends),
+            None => Span::empty(self.read.ends),
         }
     }
 }

@@ -3,7 +3,7 @@ ghost use Rattle.std.specs.Prelude.{◌≡◌, ◌-◌, ◌^◌, ◌<◌, ◌≤
 ghost use Rattle.dns_master.specs.SourceForm.{AppendsPiece};
 ghost use Rattle.dns_master.specs.Codes.{failures_after_read};
 
-use crate::fault::{ReadCode, ReadFault};
+use crate::read_fault::{ReadCode, ReadFault};
 use dns_name::Tally;
 use std::io::Read;
 

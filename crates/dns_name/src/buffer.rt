@@ -93,11 +93,7 @@ impl TextBuffer {
     ///
     /// If the writer fails, it has written a prefix of the gathered text.
     #[inline(always)]
-    pub fn make_room<W: Write>(
-        &mut self,
-        count: usize,
-        sink: &mut Tally<W>,
-    ) -> Result<(), SinkFailed>
+    pub fn reserve<W: Write>(&mut self, count: usize, sink: &mut Tally<W>) -> Result<(), SinkFailed>
         requires count { count ≤ 4096 }
         requires few_failures { sink.old.failures < 2 ^ 64 - 1 }
         ensures room { OnOk result (length self.new + count ≤ 4096) }

@@ -4,9 +4,9 @@
 
 mod buffer;
 mod label;
-mod lent;
 mod name;
 mod name_octets;
+mod name_ref;
 mod octets;
 mod plain;
 mod tally;
@@ -15,8 +15,8 @@ mod written;
 
 pub use buffer::TextBuffer;
 pub use label::Label;
-pub use lent::{Labels, NameRef, first_label};
 pub use name::Name;
+pub use name_ref::{Labels, NameRef, first_label};
 pub use octets::{are_equal, begins_with, ends_with};
 pub use tally::{SinkFailed, SourceFailed, Tally};
 pub use text::{NameFault, first_digit, first_octet};

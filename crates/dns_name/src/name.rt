@@ -9,8 +9,8 @@ ghost use Rattle.dns_name.specs.TextForm.{Appended};
 ghost use Rattle.dns_name.specs.WireForm.{labels_of, IsWireForm};
 
 use crate::label::Label;
-use crate::lent::{Labels, NameRef};
 use crate::name_octets::NameOctets;
+use crate::name_ref::{Labels, NameRef};
 use std::alloc::AllocError;
 use std::cmp::Ordering;
 use std::marker::Model;
@@ -104,7 +104,7 @@ impl Name {
     }
 
     /// The name, borrowed.
-    pub fn lent(&self) -> NameRef<'_>
+    pub fn borrowed(&self) -> NameRef<'_>
         ensures value { result ≡ self.now }
         ensures is_name { IsTrue (is_name self.now) }
     {
@@ -119,7 +119,7 @@ impl Name {
         ensures is_name { IsTrue (is_name self.now) }
         ensures count { length self.now ≤ 127 }
     {
-        self.lent().labels()
+        self.borrowed().labels()
     }
 }
 
@@ -147,7 +147,7 @@ impl Name {
     pub fn same(&self, other: &Name) -> bool
         ensures { result ≡ same self.now other.now }
     {
-        self.lent().same(&other.lent())
+        self.borrowed().same(&other.borrowed())
     }
 
     /// Whether the name is `ancestor` or a name below it: whether it ends with the labels of
@@ -155,7 +155,7 @@ impl Name {
     pub fn at_or_below(&self, ancestor: &Name) -> bool
         ensures { result ≡ at_or_below self.now ancestor.now }
     {
-        self.lent().at_or_below(&ancestor.lent())
+        self.borrowed().at_or_below(&ancestor.borrowed())
     }
 
     /// The canonical order of two names (RFC 4034 6.1).
@@ -166,7 +166,7 @@ impl Name {
         ensures { result ≡ name_order self.now other.now }
     {
         let (own, others) = (self.fold(), other.fold());
-        own.lent().order_as_spelled(&others.lent())
+        own.borrowed().order_as_spelled(&others.borrowed())
     }
 
     pub(crate) fn from_octets(octets: &[u8]) -> Name

@@ -72,7 +72,7 @@ impl Name {
             return Err(NameFault::EmptyLabel);
         }
         if word == b"@".as_slice() {
-            self.copy_from(&origin.lent());
+            self.copy_from(&origin.borrowed());
             return Ok(());
         }
         self.clear();
@@ -96,7 +96,7 @@ impl Name {
         ensures which { IfErr result (λ fault. fault_code fault ≡ name_fault word.now) }
     {
         if word == b"@".as_slice() {
-            self.copy_from(&origin.lent());
+            self.copy_from(&origin.borrowed());
             self.fold_in_place();
             return Ok(());
         }

@@ -5,8 +5,8 @@ ghost use Rattle.dns_spec.specs.Report.{bare_name_text};
 ghost use Rattle.dns_name.specs.Counted.{Writes};
 
 use crate::buffer::TextBuffer;
-use crate::lent::NameRef;
 use crate::name::Name;
+use crate::name_ref::NameRef;
 use crate::tally::{SinkFailed, Tally};
 use std::io::Write;
 
@@ -23,7 +23,7 @@ impl Name {
         requires { sink.old.failures < 2 ^ 64 - 1 }
         ensures { Writes W.contents sink.old sink.new result (name_text self.now) }
     {
-        self.lent().write_text(sink)
+        self.borrowed().write_text(sink)
     }
 
     /// Appends the name without its final dot, as most programs print it: its labels, separated by
@@ -32,7 +32,7 @@ impl Name {
         requires { length text.old + 1020 ≤ 4096 }
         ensures { text.new ≡ text.old ++ bare_name_text self.now }
     {
-        let name = self.lent();
+        let name = self.borrowed();
         name.append_text(text);
         if name.label_count() > 0 {
             text.pop();

@@ -22,13 +22,13 @@ unfoldable pub use Rattle.dns_rdata.specs.AddressForm.{number_at}
 pub use Rattle.dns_rdata.specs.HexForm.{AppendsHex, digit_of}
 unfoldable pub use Rattle.dns_rdata.specs.HexForm.{hex_front}
 pub use Rattle.dns_rdata.specs.NameFront.{HasNoLabels, StandsAfterLabels}
-pub use Rattle.dns_rdata.specs.Parts.{AreCut, HasName, IsLent, before_name, part_for, part_lends, parts_left, shown_part, with_octets}
+pub use Rattle.dns_rdata.specs.Parts.{AreCut, HasName, IsBorrowed, before_name, part_for, part_lends, parts_left, shown_part, with_octets}
 pub use Rattle.dns_rdata.specs.TypeRows.{field_of, fields_in, row_for}
 pub use Rattle.dns_rdata.specs.UnknownForm.{AppendsWord, SaysHexWord}
 pub use Rattle.dns_rdata.specs.WordForms.{Appends, AppendsSaid, as_it_is, is_marked, canonical_octets}
 pub use Rattle.dns_rdata.specs.WrittenForm.{has_one_word, is_plain, spaced}
 pub use Rattle.dns_rdata.specs.RdataFault.{fault_code}
-pub use Rattle.dns_rdata.specs.declared.fault.RdataFault.{RdataFault}
+pub use Rattle.dns_rdata.specs.declared.rdata_fault.RdataFault.{RdataFault}
 pub use Rattle.dns_rdata.specs.declared.table.TypeRow.{TypeRow}
 pub use Rattle.dns_spec.proofs.DataWords.GroupDigits.{four_of, one_digit, three_of, two_digits}
 pub use Rattle.dns_spec.proofs.DataWords.LoweredData.{cut_data, cut_whole, length-lowered, lowered_data}

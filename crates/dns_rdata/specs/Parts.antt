@@ -22,14 +22,14 @@ part_lends (Run o) = o.now
 part_lends (Name o) = o.now
 
 -- if the part is a name, its octets are the wire form of a name
-abbrev pub IsLent : Part → Type 0
-IsLent (Run o) = ⊤
-IsLent (Name o) = IsWireForm o.now
+abbrev pub IsBorrowed : Part → Type 0
+IsBorrowed (Run o) = ⊤
+IsBorrowed (Name o) = IsWireForm o.now
 
 -- a function returned the part that a definition cuts from octets, and the octets after it
 abbrev pub Cuts : Option (Part × Bor Octets) → Option (Data.Part × Octets) → Type 0
 Cuts None read = read ≡ None
-Cuts (Some x) read = (read ≡ Some (part_for x.0, x.1.now)) × IsLent x.0
+Cuts (Some x) read = (read ≡ Some (part_for x.0, x.1.now)) × IsBorrowed x.0
 
 -- a part with its octets, for a borrowed part and for a part of the definitions
 abbrev pub shown_part : Part → Data.Part × Octets

@@ -1,7 +1,7 @@
 -- The codes of the reasons why data is invalid.
 use Rattle.std.specs.Prelude.{ℕ}
-use Rattle.dns_rdata.specs.declared.fault.RdataFault.{RdataFault}
-use Rattle.dns_rdata.specs.declared.fault.RdataFault.TheVariants.{WordCount, BadNumber, BadAddress, BadName, BadString, BadHex, NotOfType, NoMemory}
+use Rattle.dns_rdata.specs.declared.rdata_fault.RdataFault.{RdataFault}
+use Rattle.dns_rdata.specs.declared.rdata_fault.RdataFault.TheVariants.{WordCount, BadNumber, BadAddress, BadName, BadString, BadHex, NotOfType, NoMemory}
 
 abbrev pub fault_code : RdataFault → ℕ
 fault_code WordCount = 1

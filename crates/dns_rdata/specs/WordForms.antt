@@ -5,8 +5,8 @@ use Rattle.dns_spec.specs.Names.{Octets}
 use Rattle.dns_spec.specs.Data.{Field, domain}
 use Rattle.dns_spec.specs.DataText.{Word, is_unknown_mark}
 use Rattle.dns_rdata.specs.RdataFault.{fault_code}
-use Rattle.dns_rdata.specs.declared.fault.RdataFault.{RdataFault}
-use Rattle.dns_rdata.specs.declared.fault.RdataFault.TheVariants.{NoMemory}
+use Rattle.dns_rdata.specs.declared.rdata_fault.RdataFault.{RdataFault}
+use Rattle.dns_rdata.specs.declared.rdata_fault.RdataFault.TheVariants.{NoMemory}
 
 -- what is appended for the octets that a word spells: the same octets, but a name in lower case
 abbrev pub as_it_is : Octets → Octets

@@ -1,7 +1,6 @@
 //! Types of records and their data, as octets and as text.
 #![tactic(auto)]
 
-mod fault;
 mod hex;
 mod ipv4;
 mod ipv6;
@@ -9,6 +8,7 @@ mod ipv6_text;
 mod number;
 mod parts;
 mod rdata;
+mod rdata_fault;
 mod read;
 mod rtype;
 mod set;
@@ -20,11 +20,11 @@ mod unknown;
 mod word;
 mod write;
 
-pub use fault::RdataFault;
 pub use number::read_number;
 pub use parts::{Part, Parts, first_part};
 pub use rdata::Rdata;
-pub use read::DataRoom;
+pub use rdata_fault::RdataFault;
+pub use read::DataBuffers;
 pub use rtype::RType;
 pub use set::SetView;
 pub use table::{Field, fields_of_type};

@@ -1,10 +1,10 @@
 //! Data of records (RFC 1035 3.2.1): octets without compression, with names in lower case.
 ghost use Rattle.std.specs.Prelude.{◌≡◌, ◌≤◌, ◌++◌, [], All, length, IfOk, OnOk, MatchResult, Some, IfSome, if◌then◌else◌};
 ghost use Rattle.dns_spec.specs.Data.{valid, Valid, parts, fields_of, target, lower_case, part_octets, part_folded};
-ghost use Rattle.dns_rdata.specs.Parts.{HasName, IsLent, before_name, part_for};
+ghost use Rattle.dns_rdata.specs.Parts.{HasName, IsBorrowed, before_name, part_for};
 
-use crate::fault::RdataFault;
 use crate::parts::{Part, Parts, are_cut};
+use crate::rdata_fault::RdataFault;
 use crate::rtype::RType;
 use crate::table::fields_of_type;
 use dns_name::{Name, NameRef};
@@ -115,12 +115,12 @@ impl Rdata {
         requires { Valid rtype.0 octets.now }
         ensures { result ≡ target rtype.0 octets.now }
     {
-        let target = Rdata::target_lent(rtype, octets)?;
+        let target = Rdata::target_ref(rtype, octets)?;
         Some(target.to_name())
     }
 
     /// The first name in valid data, if there is one, borrowed from the data.
-    pub fn target_lent(rtype: RType, octets: &[u8]) -> Option<NameRef<'_>>
+    pub fn target_ref(rtype: RType, octets: &[u8]) -> Option<NameRef<'_>>
         requires { Valid rtype.0 octets.now }
         ensures { result ≡ target rtype.0 octets.now }
     {
@@ -153,7 +153,7 @@ fn octets_before_name(rtype: RType) -> Option<usize>
 }
 
 fn append_lowered(part: Part<'_>, octets: &mut Vec<u8>) -> Result<(), AllocError>
-    requires { IsLent part }
+    requires { IsBorrowed part }
     ensures { OnOk result (octets.new.items
         ≡ octets.old.items ++ part_octets (part_folded (part_for part.entry))) }
 {

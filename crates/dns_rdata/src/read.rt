@@ -7,8 +7,8 @@ ghost use Rattle.dns_spec.specs.DataFaults.{DataFaultIs};
 ghost use Rattle.dns_spec.specs.AllFaults.{FaultyData};
 ghost use Rattle.dns_rdata.specs.RdataFault.{fault_code};
 
-use crate::fault::RdataFault;
 use crate::rdata::Rdata;
+use crate::rdata_fault::RdataFault;
 use crate::rtype::RType;
 use crate::typed::{USUAL_OCTETS, put_typed};
 use crate::unknown::{faulty_unknown, is_unknown_mark, put_unknown};
@@ -19,7 +19,7 @@ use std::mem::replace;
 
 /// Buffers for reading data; their memory is reused from record to record.
 #[derive(Drop)]
-pub struct DataRoom {
+pub struct DataBuffers {
     alloc: Global,
     name: Name,
     octets: Vec<u8>,
@@ -30,10 +30,10 @@ pub struct DataRoom {
     pub faulty: usize,
 }
 
-impl DataRoom {
+impl DataBuffers {
     /// Empty buffers. Does not allocate.
-    pub fn new(alloc: Global) -> DataRoom {
-        DataRoom {
+    pub fn new(alloc: Global) -> DataBuffers {
+        DataBuffers {
             alloc,
             name: Name::root(),
             octets: Vec::new(alloc),
@@ -74,14 +74,14 @@ impl Rdata {
         ensures which { IfErr result (λ fault. fault ≢ RdataFault.NoMemory
             → DataFaultIs rtype.0 words.now origin.now (fault_code fault)) }
     {
-        Rdata::read_words_in(&mut DataRoom::new(alloc), rtype, words, origin)
+        Rdata::read_words_in(&mut DataBuffers::new(alloc), rtype, words, origin)
     }
 
     /// The data that words spell, as `read_words` returns it. The data takes its memory from
-    /// `room`; `DataRoom::take_back` returns the memory.
+    /// `room`; `DataBuffers::take_back` returns the memory.
     #[tactic(auto, using(crate::proofs::TypedData::said_valid))]
     pub fn read_words_in<'w, W: Words<'w>>(
-        room: &mut DataRoom,
+        room: &mut DataBuffers,
         rtype: RType,
         words: W,
         origin: &Name,

@@ -9,11 +9,11 @@ ghost use Rattle.dns_rdata.specs.RdataFault.{fault_code};
 ghost use Rattle.dns_rdata.specs.TypeRows.{field_of, fields_in};
 ghost use Rattle.dns_rdata.specs.WordForms.{as_it_is, canonical_octets, AppendsSaid, is_marked};
 
-use crate::fault::RdataFault;
 use crate::ipv4::read_ipv4;
 use crate::ipv6::read_ipv6;
 use crate::number::read_number;
 use crate::rdata::MAX_OCTETS;
+use crate::rdata_fault::RdataFault;
 use crate::rtype::RType;
 use crate::string::{is_plain_string, read_string};
 use crate::table::{Field, is_strings, row_of_type};

@@ -7,9 +7,9 @@ ghost use Rattle.dns_spec.specs.DataText.{SaysUnknown, is_unknown_mark};
 ghost use Rattle.dns_spec.specs.AllFaults.{FaultyUnknown, is_hex};
 ghost use Rattle.dns_rdata.specs.UnknownForm.{AppendsWord, SaysHexWord};
 
-use crate::fault::RdataFault;
 use crate::hex::append_hex;
 use crate::number::read_number;
+use crate::rdata_fault::RdataFault;
 use crate::word::{Word, Words};
 
 // Data has at most 65,535 octets (RFC 1035 3.2.1).

@@ -76,7 +76,7 @@ impl Rdata {
         let mut before: &[u8] = b"";
         let mut rest = octets;
         'fields: for field in row.fields {
-            text.make_room(STRING_ROOM, sink)?;
+            text.reserve(STRING_ROOM, sink)?;
             rest = append_field(*field, before, rest, text);
             before = SPACE;
         }
@@ -123,7 +123,7 @@ fn put_strings<W: Write>(
     let mut before: &[u8] = b"";
     let mut rest = octets;
     'strings: while !rest.is_empty() {
-        text.make_room(STRING_ROOM, sink)?;
+        text.reserve(STRING_ROOM, sink)?;
         rest = append_string(before, rest, text);
         before = SPACE;
     }
@@ -141,7 +141,7 @@ fn put_unknown<W: Write>(
     ensures { Fills W.contents sink.old sink.new result
         (text.old ++ spaced [] (unknown_words octets.now)) text.new }
 {
-    text.make_room(STRING_ROOM, sink)?;
+    text.reserve(STRING_ROOM, sink)?;
     text.append(b"\\# ");
     text.append(Buffer::new().format(octets.len() as u32).as_bytes());
     if octets.is_empty() {
@@ -151,7 +151,7 @@ fn put_unknown<W: Write>(
     let mut rest = octets;
     'chunks: while !rest.is_empty() {
         let (chunk, others) = rest.split_at(rest.len().min(CHUNK));
-        text.make_room(CHUNK_DIGITS, sink)?;
+        text.reserve(CHUNK_DIGITS, sink)?;
         append_hex_text(chunk, text);
         rest = others;
     }

@@ -24,10 +24,10 @@ reply_is z d kept piece reply e k r =
     first_octets_answer z d most_over_udp ∙ ap (reply_over_udp z) (sym (e ∙ k)) ∙ sym r
 
 pub turn_without : (z y : ZoneContents) → y ≡ z → (had has sent sent' : Option (List Octets))
-    (n : ℕ) (buf piece : Octets) (lent : Option (Bor Octets)) → IsHanded had has n buf
-    → piece ≡ take n buf → lent ≡ None → option_copied lent
+    (n : ℕ) (buf piece : Octets) (borrowed : Option (Bor Octets)) → IsHanded had has n buf
+    → piece ≡ take n buf → borrowed ≡ None → option_copied borrowed
     ≡ reply_over_udp y piece → KeepsAll sent sent' → IsTurn z (turn had has sent sent') false
-turn_without z y zone_is had has sent sent' n buf piece lent h e none r keeps =
+turn_without z y zone_is had has sent sent' n buf piece borrowed h e none r keeps =
     let same = reply_is z h.datagram (take n buf) piece None e h.kept (sym (ap option_copied none)
     ∙ r ∙ ap (λ z. reply_over_udp z piece) zone_is) in record {
       datagram = h.datagram;
@@ -38,12 +38,12 @@ turn_without z y zone_is had has sent sent' n buf piece lent h e none r keeps =
 
 pub turn_with : (z y : ZoneContents)
     → y ≡ z → (had has has' sent sent' sent'' : Option (List Octets)) (n : ℕ) (buf piece : Octets)
-    (lent : Option (Bor Octets)) (reply : Bor Octets) → IsHanded had has n buf
-    → piece ≡ take n buf → lent ≡ Some reply → option_copied lent
+    (borrowed : Option (Bor Octets)) (reply : Bor Octets) → IsHanded had has n buf
+    → piece ≡ take n buf → borrowed ≡ Some reply → option_copied borrowed
     ≡ reply_over_udp y piece → KeepsAll sent sent' → KeepsAll has has'
     → Grows sent' sent'' (reply.now ∷ []) → IsTurn z (turn had has' sent sent'') true
 turn_with z y zone_is had has
-    has' sent sent' sent'' n buf piece lent reply h e some r keeps same_has sends =
+    has' sent sent' sent'' n buf piece borrowed reply h e some r keeps same_has sends =
     let same = reply_is z h.datagram (take n buf) piece (Some reply.now) e h.kept
     (sym (ap option_copied some) ∙ r ∙ ap (λ z. reply_over_udp z piece) zone_is) in record {
       datagram = h.datagram;
@@ -54,10 +54,10 @@ turn_with z y zone_is had has
     }
 
 pub turn_unsent : (z y : ZoneContents) → y ≡ z → (had has has' sent sent'' : Option (List Octets))
-    (n : ℕ) (buf piece : Octets) (lent : Option (Bor Octets)) (reply : Bor Octets) → IsHanded had
-    has n buf → piece ≡ take n buf → lent ≡ Some reply → option_copied lent
+    (n : ℕ) (buf piece : Octets) (borrowed : Option (Bor Octets)) (reply : Bor Octets) → IsHanded had
+    has n buf → piece ≡ take n buf → borrowed ≡ Some reply → option_copied borrowed
     ≡ reply_over_udp y piece → KeepsAll has has' → IsUnsent z (turn had has' sent sent'')
-turn_unsent z y zone_is had has has' sent sent'' n buf piece lent reply h e some r same_has =
+turn_unsent z y zone_is had has has' sent sent'' n buf piece borrowed reply h e some r same_has =
     let same = reply_is z h.datagram (take n buf) piece (Some reply.now) e h.kept
     (sym (ap option_copied some) ∙ r ∙ ap (λ z. reply_over_udp z piece) zone_is) in record {
       datagram = h.datagram;

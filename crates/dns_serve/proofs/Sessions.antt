@@ -9,7 +9,7 @@ use Rattle.dns_name.specs.Counted.{AppendsBeginning}
 use Rattle.dns_serve.specs.Framing.{FrameState, HasCome}
 use Rattle.dns_serve.specs.Reads.{FrameRead, GivesMessage, GivesNothing}
 use Rattle.dns_serve.specs.Streams.{Session, AreFrames, HasServed, WasRefused, SessionOf, reply_over_tcp}
-use Rattle.dns_serve.specs.declared.fault.StreamFault.{StreamFault}
+use Rattle.dns_serve.specs.declared.turn_fault.StreamFault.{StreamFault}
 
 -- One message was read, and a prefix of its reply was written.
 pub record HasBegun (reply : Octets → Option Octets) (s : Session) : Type 0 where

@@ -4,8 +4,8 @@ use Rattle.std.specs.Io.KnownBytes.{Consumes, IsAtEnd}
 use Rattle.dns_spec.specs.Names.{Octets}
 use Rattle.dns_spec.specs.Stream.{frame, first_frame, IsCutFrame}
 use Rattle.dns_serve.specs.Framing.{FrameState, HasCome}
-use Rattle.dns_serve.specs.declared.fault.StreamFault.{StreamFault}
-use Rattle.dns_serve.specs.declared.fault.StreamFault.TheVariants.{SourceFailed, SinkFailed, Cut}
+use Rattle.dns_serve.specs.declared.turn_fault.StreamFault.{StreamFault}
+use Rattle.dns_serve.specs.declared.turn_fault.StreamFault.TheVariants.{SourceFailed, SinkFailed, Cut}
 
 -- a message after its length, which the frame holds
 pub record GivesMessage (old new : Option Octets) (f : FrameState) : Type 0 where

@@ -9,8 +9,8 @@ use Rattle.dns_spec.specs.Query.{most_over_tcp}
 use Rattle.dns_spec.specs.Reply.{octets_of}
 use Rattle.dns_spec.specs.Stream.{frame, frames, IsCutFrame, reply_frame, replies}
 use Rattle.dns_name.specs.Counted.{Counted}
-use Rattle.dns_serve.specs.declared.fault.StreamFault.{StreamFault}
-use Rattle.dns_serve.specs.declared.fault.StreamFault.TheVariants.{SourceFailed, SinkFailed, Cut}
+use Rattle.dns_serve.specs.declared.turn_fault.StreamFault.{StreamFault}
+use Rattle.dns_serve.specs.declared.turn_fault.StreamFault.TheVariants.{SourceFailed, SinkFailed, Cut}
 
 -- the reply of a zone over TCP, of at most 65,535 octets (RFC 1035 4.2.2)
 abbrev pub reply_over_tcp : ZoneContents → Octets → Option Octets

@@ -7,8 +7,8 @@ use Rattle.dns_spec.specs.Names.{Octets}
 use Rattle.dns_spec.specs.Records.{ZoneContents}
 use Rattle.dns_spec.specs.Query.{most_over_udp}
 use Rattle.dns_spec.specs.Reply.{octets_of}
-use Rattle.dns_serve.specs.declared.fault.TurnFault.{TurnFault}
-use Rattle.dns_serve.specs.declared.fault.TurnFault.TheVariants.{ReceiveFailed, SendFailed}
+use Rattle.dns_serve.specs.declared.turn_fault.TurnFault.{TurnFault}
+use Rattle.dns_serve.specs.declared.turn_fault.TurnFault.TheVariants.{ReceiveFailed, SendFailed}
 
 -- a device's list of datagrams, if it is known, grew by the datagrams ds
 abbrev pub Grows : Option (List Octets) → Option (List Octets) → List Octets → Type 0

@@ -3,15 +3,15 @@
 #![tactic(auto)]
 
 mod datagrams;
-mod fault;
 mod frame;
 mod session;
 mod stream;
 mod turn;
+mod turn_fault;
 
 pub use datagrams::{Datagrams, Failed};
-pub use fault::{StreamFault, TurnFault};
 pub use frame::Frame;
 pub use session::Session;
 pub use stream::serve_stream;
 pub use turn::{udp_turn, udp_turn_in};
+pub use turn_fault::{StreamFault, TurnFault};

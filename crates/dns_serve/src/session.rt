@@ -7,7 +7,7 @@ ghost use Rattle.dns_serve.specs.Streams.{reply_over_tcp};
 
 use crate::frame::Frame;
 use byteorder::{BigEndian, ByteOrder};
-use dns_answer::{TcpDraft, respond_in};
+use dns_answer::{TcpBuilder, respond_in};
 use dns_zone::{Steps, Zone};
 use std::alloc::{AllocError, Global};
 use std::marker::Model;
@@ -69,7 +69,7 @@ impl Session {
     /// Takes octets of the stream, and answers each message that they complete. Returns the octets
     /// that it does not take: none, unless more than 16,384 octets of replies are held, or no more
     /// messages are answered. Does not allocate.
-    pub fn take<'a>(&mut self, zone: &Zone, octets: &'a [u8], draft: &mut TcpDraft) -> &'a [u8]
+    pub fn take<'a>(&mut self, zone: &Zone, octets: &'a [u8], builder: &mut TcpBuilder) -> &'a [u8]
         ensures rest { IsEndOf result.now octets.now }
         ensures taken { (most : ℕ) (x : Octets) (sent : Octets)
             → HasTaken zone.now most self.old x sent
@@ -79,7 +79,7 @@ impl Session {
         'pieces: while !rest.is_empty() && self.replies.len() <= BATCH && self.left > 0 {
             rest = self.frame.take(rest);
             if self.frame.missing() == 0 {
-                put_reply(zone, self.frame.message(), draft, &mut self.replies);
+                put_reply(zone, self.frame.message(), builder, &mut self.replies);
                 self.frame.clear();
                 self.left -= 1;
             }
@@ -127,7 +127,7 @@ impl Session {
 }
 
 // Appends the reply to a message after its length, or nothing if there is no reply.
-fn put_reply(zone: &Zone, message: &[u8], draft: &mut TcpDraft, replies: &mut Vec<u8>)
+fn put_reply(zone: &Zone, message: &[u8], builder: &mut TcpBuilder, replies: &mut Vec<u8>)
     requires { vec_len replies.old + 65537 ≤ vec_capacity replies.old }
     ensures items { replies.new.items
         ≡ replies.old.items ++ reply_frame (reply_over_tcp zone.now message.now) }
@@ -135,7 +135,7 @@ fn put_reply(zone: &Zone, message: &[u8], draft: &mut TcpDraft, replies: &mut Ve
     ensures room { vec_capacity replies.old ≤ vec_capacity replies.new }
 {
     let mut steps = Steps::new(zone);
-    let Some(reply) = respond_in(&mut steps, message, draft) else {
+    let Some(reply) = respond_in(&mut steps, message, builder) else {
         return;
     };
     let mut length = [0; 2];

@@ -6,10 +6,10 @@ ghost use Rattle.dns_name.specs.Counted.{Writes};
 ghost use Rattle.dns_serve.specs.Reads.{FrameRead};
 ghost use Rattle.dns_serve.specs.Streams.{SessionOf, session, reply_over_tcp, source_failures_after, sink_failures_after};
 
-use crate::fault::StreamFault;
 use crate::frame::Frame;
+use crate::turn_fault::StreamFault;
 use byteorder::{BigEndian, ByteOrder};
-use dns_answer::{TcpDraft, respond_in};
+use dns_answer::{TcpBuilder, respond_in};
 use dns_name::{SinkFailed, Tally};
 use dns_zone::{Steps, Zone};
 use std::io::{Read, Write};
@@ -44,14 +44,14 @@ pub fn serve_stream<R: Read, W: Write>(
         (session R.remaining W.contents source.old source.new sink.old sink.new) result }
 {
     let (mut frame, mut room) = (Frame::new(), [0; MOST_FRAME]);
-    let mut draft = TcpDraft::new();
+    let mut builder = TcpBuilder::new();
     let mut served = 0;
     'messages: while served < most {
         if !read_frame(source, &mut frame, &mut room)? {
             break;
         }
         let message = frame.message();
-        write_reply(zone, message, sink, &mut draft, &mut room)?;
+        write_reply(zone, message, sink, &mut builder, &mut room)?;
         sink.flush()?;
         served += 1;
     }
@@ -93,7 +93,7 @@ fn write_reply<W: Write>(
     zone: &Zone,
     message: &[u8],
     sink: &mut Tally<W>,
-    draft: &mut TcpDraft,
+    builder: &mut TcpBuilder,
     room: &mut [u8],
 ) -> Result<(), SinkFailed>
     requires sink { sink.old.failures < 2 ^ 64 - 1 }
@@ -102,7 +102,7 @@ fn write_reply<W: Write>(
         (reply_frame (reply_over_tcp zone.now message.now)) }
 {
     let mut steps = Steps::new(zone);
-    let Some(reply) = respond_in(&mut steps, message, draft) else {
+    let Some(reply) = respond_in(&mut steps, message, builder) else {
         return Ok(());
     };
     let (length, rest) = room.split_at_mut(2);

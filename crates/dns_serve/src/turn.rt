@@ -4,8 +4,8 @@ ghost use Rattle.dns_name.specs.Counted.{failures_after};
 ghost use Rattle.dns_serve.specs.Turns.{TurnOf, turn};
 
 use crate::datagrams::Datagrams;
-use crate::fault::TurnFault;
-use dns_answer::{UdpDraft, respond_in};
+use crate::turn_fault::TurnFault;
+use dns_answer::{UdpBuilder, respond_in};
 use dns_zone::{Steps, Zone};
 
 // The most octets that are kept of a datagram.
@@ -25,8 +25,8 @@ pub fn udp_turn<D: Datagrams>(zone: &Zone, device: &mut D) -> Result<bool, TurnF
     ensures counted { D.count device.new ≡ failures_after (D.count device.old) result }
 {
     let mut room = [0; MOST_KEPT];
-    let mut draft = UdpDraft::new();
-    udp_turn_in(zone, device, &mut room, &mut draft)
+    let mut builder = UdpBuilder::new();
+    udp_turn_in(zone, device, &mut room, &mut builder)
 }
 
 /// Takes a turn as `udp_turn` does, in the caller's buffers: for the datagram and for the reply.
@@ -36,7 +36,7 @@ pub fn udp_turn_in<D: Datagrams>(
     zone: &Zone,
     device: &mut D,
     room: &mut [u8; MOST_KEPT],
-    draft: &mut UdpDraft,
+    builder: &mut UdpBuilder,
 ) -> Result<bool, TurnFault>
     requires { D.count device.old < 2 ^ 64 - 1 }
     ensures turn { TurnOf zone.now (turn D.received D.sent device.old device.new) result }
@@ -47,7 +47,7 @@ pub fn udp_turn_in<D: Datagrams>(
     };
     let (datagram, _) = room.split_at(count);
     let mut steps = Steps::new(zone);
-    let Some(reply) = respond_in(&mut steps, datagram, draft) else {
+    let Some(reply) = respond_in(&mut steps, datagram, builder) else {
         return Ok(false);
     };
     match device.send(reply) {

@@ -54,7 +54,7 @@ unfoldable pub use Rattle.dns_spec.specs.Data.{cut}
 pub use Rattle.dns_spec.specs.DataText.{Says, SaysAsSpelled, SaysField, SaysFields, SaysHex, SaysNumber, SaysString, SaysTyped, SaysUnknown, SaysWord, SpellsString, SpellsStringOctet, Word, are_strings_alone, word_fields, word_fields_of, is_hex_word, is_string_octet, is_unknown_mark, is_word_octet, may_be_quoted}
 unfoldable pub use Rattle.dns_spec.specs.DataText.{hex_octets}
 pub use Rattle.dns_spec.specs.DataFaults.{DataFaultIs, FieldsFaultIs, TypedFaultIs, UnknownFaultIs, field_fault}
-pub use Rattle.dns_spec.specs.EntryPlaces.{Ending, Place, PlacedEntry, PlacedToken, after_line, after_token, at_parenthesis, at_stop, empty_place, end_octets, ending_fault, entries_to_end, fault_place, is_misplaced, next_line, octet_place, placed_entries, placed_entry, stop_octets, text_after, word_place}
+pub use Rattle.dns_spec.specs.EntryPlaces.{Ending, Span, PlacedEntry, PlacedToken, after_line, after_token, at_parenthesis, at_stop, empty_place, end_octets, ending_fault, entries_to_end, fault_place, is_misplaced, next_line, octet_place, placed_entries, placed_entry, stop_octets, text_after, word_place}
 unfoldable pub use Rattle.dns_spec.specs.EntryPlaces.{entries_from, read_entry}
 pub use Rattle.dns_spec.specs.FileFaults.{FileFault, bad_data, bad_escape, bad_octet, bad_owner, bad_parenthesis, bad_ttl, bad_type, directive_words, fault_code, no_memory, no_owner, no_ttl, other_class, too_long, too_many_records, unended_string, unknown_directive}
 pub use Rattle.dns_spec.specs.Laws.{HasRoom, IsAskable, IsSetAt, IsWritable, OctetsMean, section_rank, sections_in_order}

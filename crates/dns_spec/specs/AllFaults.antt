@@ -17,7 +17,7 @@ use Rattle.dns_spec.specs.FileFaults.{FileFault, fault_code, bad_octet, bad_esca
 use Rattle.dns_spec.specs.ZoneText.{Entry}
 use Rattle.dns_spec.specs.Records.{ResourceRecord, ZoneContents, zone_of}
 use Rattle.dns_spec.specs.Meaning.{faulty, gives, Nothing, EntryKind, no_words, directive, owned, unowned, kind_of, fields, is_ttl_word, is_class_word, OriginIs, NameIs, TtlSays, TypeIs, EntryGives}
-use Rattle.dns_spec.specs.EntryPlaces.{Place, empty_place, PlacedEntry, placed_entries}
+use Rattle.dns_spec.specs.EntryPlaces.{Span, empty_place, PlacedEntry, placed_entries}
 use Rattle.dns_spec.specs.Checks.{Fault, faults}
 use Rattle.dns_spec.specs.Report.{Report, two_digits, fault_report}
 
@@ -119,17 +119,17 @@ FaultyWord o earlier s bad_data i =
 FaultyWord o earlier s _ i = ⊥
 
 -- the first of these places, if there is one
-abbrev pub first_place : List Place → Place → Place
+abbrev pub first_place : List Span → Span → Span
 first_place [] otherwise = otherwise
 first_place (place ∷ places) otherwise = place
 
 -- the place of the word after i words, or the end of the entry if it has no such word
-abbrev pub place_after : ℕ → PlacedEntry → Place
+abbrev pub place_after : ℕ → PlacedEntry → Span
 place_after i e = first_place (drop i e.words) (empty_place e.ends)
 
 -- The place of a fault: of `R01` to `R04` and `R15`, the octet at which reading stops; of `R08` and
 -- `R14`, the beginning of the entry; of any other fault, the word at fault.
-abbrev pub PlaceIs : DomainName → List Entry → PlacedEntry → FileFault → Place → Type 0
+abbrev pub PlaceIs : DomainName → List Entry → PlacedEntry → FileFault → Span → Type 0
 PlaceIs o earlier e bad_octet place = place ≡ e.stop bad_octet
 PlaceIs o earlier e bad_escape place = place ≡ e.stop bad_escape
 PlaceIs o earlier e unended_string place = place ≡ e.stop unended_string
@@ -159,7 +159,7 @@ NumberIs o earlier s _ number = number ≡ None
 pub record EntryFault : Type 0 where
   pub fault : FileFault
   pub number : Option ℕ
-  pub place : Place
+  pub place : Span
   pub entry : ℕ
 
 -- the entry has this fault

@@ -10,14 +10,14 @@ use Rattle.dns_spec.specs.FileFaults.{FileFault, bad_parenthesis, too_long}
 use Rattle.dns_spec.specs.ZoneText.{most_octets, Token, token_front, parenthesis, is_line_end, open_after, begins_line_end, Extent, extent_by, EntryStop, text_over, in_string, in_token, stop_at, stop_fault, Entry, word_of}
 
 -- A place in a text: the number of octets before it, and the number of octets up to its end.
-pub record Place : Type 0 where
+pub record Span : Type 0 where
   pub begins : ℕ
   pub ends : ℕ
 
 -- a token and its place
 pub record PlacedToken : Type 0 where
   pub token : Token
-  pub place : Place
+  pub place : Span
 
 -- How reading an entry ends: after its line end, with the text after it; at a text that begins with
 -- a misplaced parenthesis; or at a text with which no token begins, inside (true) or outside
@@ -76,7 +76,7 @@ end_octets (at_parenthesis place) = place
 end_octets (at_stop is_open rest) = stop_octets (stop_at rest)
 
 -- the place of the octet that begins a text; a line end and the end of a text are empty places
-abbrev pub octet_place : ℕ → Octets → Place
+abbrev pub octet_place : ℕ → Octets → Span
 octet_place before text =
     record {
       begins = before;
@@ -84,12 +84,12 @@ octet_place before text =
     }
 
 -- an empty place
-abbrev pub empty_place : ℕ → Place
+abbrev pub empty_place : ℕ → Span
 empty_place before = record { begins = before; ends = before }
 
 -- The place of a lexical fault: the octet at which reading stops, or for `R15` the first octet past
 -- the limit. The examined octets of the text are `total`, and `past` follows them.
-abbrev pub fault_place : ℕ → Octets → FileFault → Octets → Place
+abbrev pub fault_place : ℕ → Octets → FileFault → Octets → Span
 fault_place total past too_long rest = octet_place total past
 fault_place total past fault rest = octet_place (total - length rest) rest
 
@@ -110,12 +110,12 @@ text_after (at_stop is_open (o ∷ rest)) = Some (next_line (stop_octets (stop_a
 pub record PlacedEntry : Type 0 where
   pub entry : Entry
   pub begins : ℕ
-  pub words : List Place
+  pub words : List Span
   pub ends : ℕ
-  pub stop : FileFault → Place
+  pub stop : FileFault → Span
 
 -- the place of a token that is a word or a quoted string
-abbrev pub word_place : PlacedToken → Option Place
+abbrev pub word_place : PlacedToken → Option Span
 word_place p = if is_some (word_of p.token) then Some p.place else None
 
 -- the number of octets before the last of these tokens

@@ -27,16 +27,16 @@ pub use Rattle.dns_tools.specs.Parts.{part_text, parts_text}
 pub use Rattle.dns_tools.specs.Printed.{PrintedAs}
 pub use Rattle.dns_tools.specs.Stops.{sink_failures_after, source_failures_after}
 pub use Rattle.dns_tools.specs.Turns.{TakesTurns}
-pub use Rattle.dns_tools.specs.declared.fault.Stop.{Stop}
-pub use Rattle.dns_tools.specs.declared.fault.Stop.TheVariants.{Memory, Sink, Source}
+pub use Rattle.dns_tools.specs.declared.stop.Stop.{Stop}
+pub use Rattle.dns_tools.specs.declared.stop.Stop.TheVariants.{Memory, Sink, Source}
 pub use Rattle.dns_tools.specs.declared.load.LoadFault.{LoadFault}
 pub use Rattle.dns_tools.specs.declared.load.LoadFault.TheVariants.{Refused}
 pub use Rattle.dns_tools.specs.declared.load.Refusal.{Refusal}
 pub use Rattle.dns_tools.specs.declared.load.Refusal.TheVariants.{File, Zone}
 pub use Rattle.dns_wire.specs.Read.{data_type}
 pub use Rattle.dns_wire.specs.WireFault.{UnlessNoMemory}
-pub use Rattle.dns_wire.specs.declared.fault.WireFault.{WireFault}
-pub use Rattle.dns_wire.specs.declared.fault.WireFault.TheVariants.{BadData, BadPointer, LongName, NoMemory, ReservedLabel, Short, Trailing}
+pub use Rattle.dns_wire.specs.declared.wire_fault.WireFault.{WireFault}
+pub use Rattle.dns_wire.specs.declared.wire_fault.WireFault.TheVariants.{BadData, BadPointer, LongName, NoMemory, ReservedLabel, Short, Trailing}
 pub use Rattle.hex.proofs.HexLemmas.{length-encode_with}
 pub use Rattle.hex.proofs.Pairs.{cons_byte}
 pub use Rattle.hex.specs.Hex.{IsBytes, decode_of, encode_lower, hex_digit_value, lower_digits}

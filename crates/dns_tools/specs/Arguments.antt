@@ -11,18 +11,18 @@ use Rattle.dns_tools.specs.declared.arguments.Service.TheVariants.{Once, Udp, Tc
 use Rattle.dns_tools.specs.declared.arguments.CheckWords.{CheckWords}
 use Rattle.dns_tools.specs.declared.arguments.ServeWords.{ServeWords}
 use Rattle.dns_tools.specs.declared.arguments.SocketWords.{SocketWords}
-use Rattle.dns_tools.specs.declared.fault.FaultWord.{FaultWord}
-use Rattle.dns_tools.specs.declared.fault.FaultWord.TheVariants.{Usage, BadOrigin, NoMemory}
+use Rattle.dns_tools.specs.declared.stop.FaultText.{FaultText}
+use Rattle.dns_tools.specs.declared.stop.FaultText.TheVariants.{Usage, BadOrigin, NoMemory}
 
 -- the diagnostics for refused arguments
-abbrev pub is_word_fault : FaultWord → Bool
+abbrev pub is_word_fault : FaultText → Bool
 is_word_fault Usage = true
 is_word_fault BadOrigin = true
 is_word_fault NoMemory = true
 is_word_fault _ = false
 
 -- the diagnostics that are possible before ORIGIN is read
-abbrev pub IsRefusal : FaultWord → Type 0
+abbrev pub IsRefusal : FaultText → Type 0
 IsRefusal fault = (fault ≡ Usage) ⊎ (fault ≡ NoMemory)
 
 -- the name that ORIGIN spells, relative to the root, in lower case

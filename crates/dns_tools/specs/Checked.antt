@@ -7,8 +7,8 @@ use Rattle.dns_spec.specs.Report.{Options, Report, Reports, report_of_meaning}
 use Rattle.dns_master.specs.SourceForm.{Decides}
 use Rattle.dns_name.specs.Counted.{AppendsBeginning}
 use Rattle.dns_tools.specs.declared.check.Flags.{Flags}
-use Rattle.dns_tools.specs.declared.fault.Stop.{Stop}
-use Rattle.dns_tools.specs.declared.fault.Stop.TheVariants.{Memory, Source, Sink}
+use Rattle.dns_tools.specs.declared.stop.Stop.{Stop}
+use Rattle.dns_tools.specs.declared.stop.Stop.TheVariants.{Memory, Source, Sink}
 
 -- the options of the command line
 abbrev pub options_of : Flags → Options

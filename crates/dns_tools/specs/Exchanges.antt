@@ -12,8 +12,8 @@ use Rattle.dns_answer.specs.declared.reply.Limit.{Limit}
 use Rattle.dns_answer.specs.Limits.{limit_of}
 use Rattle.dns_serve.specs.Streams.{Session}
 use Rattle.dns_tools.specs.KeptLine.{KeptLine, no_line, kept_line}
-use Rattle.dns_tools.specs.declared.fault.Stop.{Stop}
-use Rattle.dns_tools.specs.declared.fault.Stop.TheVariants.{Memory, Source, Sink}
+use Rattle.dns_tools.specs.declared.stop.Stop.{Stop}
+use Rattle.dns_tools.specs.declared.stop.Stop.TheVariants.{Memory, Source, Sink}
 
 -- the reply of a zone, of at most as many octets as the limit allows
 abbrev pub reply_within : Limit → ZoneContents → Octets → Option Octets

@@ -5,12 +5,12 @@ use Rattle.dns_spec.specs.Names.{Octets, DomainName}
 use Rattle.dns_spec.specs.AllFaults.{ListsFaults, entry_report, line_at, column_at}
 use Rattle.dns_master.specs.FaultListForm.{ReadsOctets}
 use Rattle.dns_master.specs.ListingForm.{shown_fault}
-use Rattle.dns_master.specs.declared.fault.ReadCode.{ReadCode}
-use Rattle.dns_master.specs.declared.fault.ReadCode.TheVariants.{SourceFailed}
+use Rattle.dns_master.specs.declared.read_fault.ReadCode.{ReadCode}
+use Rattle.dns_master.specs.declared.read_fault.ReadCode.TheVariants.{SourceFailed}
 use Rattle.dns_master.specs.declared.listing.FaultList.{FaultList}
 use Rattle.dns_tools.specs.Checked.{ReportedAs}
-use Rattle.dns_tools.specs.declared.fault.Stop.{Stop}
-use Rattle.dns_tools.specs.declared.fault.Stop.TheVariants.{Memory, Source}
+use Rattle.dns_tools.specs.declared.stop.Stop.{Stop}
+use Rattle.dns_tools.specs.declared.stop.Stop.TheVariants.{Memory, Source}
 use Rattle.dns_tools.specs.declared.faults.Position.{Position}
 
 -- What a run has written and returned: the list of the faults of the octets that were read, which

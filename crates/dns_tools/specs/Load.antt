@@ -9,11 +9,11 @@ use Rattle.dns_spec.specs.Meaning.{records, fault_at}
 use Rattle.dns_spec.specs.Report.{line_report, fault_report}
 use Rattle.dns_name.specs.Counted.{Counted}
 use Rattle.dns_master.specs.SourceForm.{IsRead}
-use Rattle.dns_master.specs.declared.fault.ReadCode.{ReadCode}
-use Rattle.dns_master.specs.declared.fault.ReadCode.TheVariants.{SourceFailed, NoMemory}
-use Rattle.dns_master.specs.declared.fault.ReadFault.{ReadFault}
+use Rattle.dns_master.specs.declared.read_fault.ReadCode.{ReadCode}
+use Rattle.dns_master.specs.declared.read_fault.ReadCode.TheVariants.{SourceFailed, NoMemory}
+use Rattle.dns_master.specs.declared.read_fault.ReadFault.{ReadFault}
 use Rattle.dns_master.specs.Codes.{fault_of}
-use Rattle.dns_tools.specs.declared.fault.Stop.TheVariants.{Memory, Source, Sink}
+use Rattle.dns_tools.specs.declared.stop.Stop.TheVariants.{Memory, Source, Sink}
 use Rattle.dns_tools.specs.declared.load.Refusal.{Refusal}
 use Rattle.dns_tools.specs.declared.load.Refusal.TheVariants.{File, Zone}
 use Rattle.dns_tools.specs.declared.load.LoadFault.{LoadFault}

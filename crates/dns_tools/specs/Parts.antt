@@ -10,8 +10,8 @@ use Rattle.dns_spec.specs.Report.{two_digits, bare_name_text}
 use Rattle.dns_spec.specs.Layout.{octets16}
 use Rattle.dns_spec.specs.MessageLines.{class_text}
 use Rattle.dns_wire.specs.Read.{data_type}
-use Rattle.dns_tools.specs.declared.parts.LinePart.{LinePart}
-use Rattle.dns_tools.specs.declared.parts.LinePart.TheVariants.{Text, Number, Hex, Code, DottedNumber, Name, BareName, Class, TypeName, Data}
+use Rattle.dns_tools.specs.declared.line_parts.LinePart.{LinePart}
+use Rattle.dns_tools.specs.declared.line_parts.LinePart.TheVariants.{Text, Number, Hex, Code, DottedNumber, Name, BareName, Class, TypeName, Data}
 
 abbrev pub part_text : LinePart → Octets
 part_text (Text text) = text.now

@@ -4,11 +4,11 @@ use Rattle.dns_spec.specs.Names.{Octets}
 use Rattle.dns_spec.specs.Report.{Report}
 use Rattle.dns_spec.specs.MessageLines.{PrintsInput}
 use Rattle.dns_wire.specs.WireFault.{fault_code}
-use Rattle.dns_wire.specs.declared.fault.WireFault.{WireFault}
-use Rattle.dns_wire.specs.declared.fault.WireFault.TheVariants.{NoMemory}
+use Rattle.dns_wire.specs.declared.wire_fault.WireFault.{WireFault}
+use Rattle.dns_wire.specs.declared.wire_fault.WireFault.TheVariants.{NoMemory}
 use Rattle.dns_serve.specs.Streams.{Session}
-use Rattle.dns_tools.specs.declared.fault.Stop.{Stop}
-use Rattle.dns_tools.specs.declared.fault.Stop.TheVariants.{Memory, Source, Sink}
+use Rattle.dns_tools.specs.declared.stop.Stop.{Stop}
+use Rattle.dns_tools.specs.declared.stop.Stop.TheVariants.{Memory, Source, Sink}
 use Rattle.dns_tools.specs.Checked.{ReportedAs}
 use Rattle.dns_tools.specs.FirstLine.{HasReadFront, HasReadLine}
 

@@ -2,20 +2,20 @@
 use Rattle.std.specs.Prelude.{ℕ, Bool, true, false, if◌then◌else◌, Result, Ok, Err}
 use Rattle.clap.specs.declared.error.kind.ErrorKind.{ErrorKind}
 use Rattle.clap.specs.declared.error.kind.ErrorKind.TheVariants.{OutOfMemory}
-use Rattle.dns_tools.specs.declared.fault.Stop.{Stop}
-use Rattle.dns_tools.specs.declared.fault.Stop.TheVariants.{Memory, Source, Sink}
-use Rattle.dns_serve.specs.declared.fault.TurnFault.{TurnFault}
-use Rattle.dns_serve.specs.declared.fault.TurnFault.TheVariants.{ReceiveFailed, SendFailed}
-use Rattle.dns_serve.specs.declared.fault.StreamFault.{StreamFault}
-use Rattle.dns_serve.specs.declared.fault.StreamFault.TheVariants.{SourceFailed, SinkFailed, Cut}
-use Rattle.dns_tools.specs.declared.fault.TurnWord.{TurnWord}
-use Rattle.dns_tools.specs.declared.fault.TurnWord.TheVariants.{NoDatagram, NotSent}
-use Rattle.dns_tools.specs.declared.fault.TurnWord.TheVariants.{StreamNotRead, StreamNotWritten}
-use Rattle.dns_tools.specs.declared.fault.TurnWord.TheVariants.{StreamCut}
-use Rattle.dns_tools.specs.declared.fault.FaultWord.{FaultWord}
-use Rattle.dns_tools.specs.declared.fault.FaultWord.TheVariants.{NoMemory, Usage}
-use Rattle.dns_tools.specs.declared.fault.FaultWord.TheVariants.{SourceFailed as FileFailed}
-use Rattle.dns_tools.specs.declared.fault.FaultWord.TheVariants.{SinkFailed as NotWritten}
+use Rattle.dns_tools.specs.declared.stop.Stop.{Stop}
+use Rattle.dns_tools.specs.declared.stop.Stop.TheVariants.{Memory, Source, Sink}
+use Rattle.dns_serve.specs.declared.turn_fault.TurnFault.{TurnFault}
+use Rattle.dns_serve.specs.declared.turn_fault.TurnFault.TheVariants.{ReceiveFailed, SendFailed}
+use Rattle.dns_serve.specs.declared.turn_fault.StreamFault.{StreamFault}
+use Rattle.dns_serve.specs.declared.turn_fault.StreamFault.TheVariants.{SourceFailed, SinkFailed, Cut}
+use Rattle.dns_tools.specs.declared.stop.TurnFaultText.{TurnFaultText}
+use Rattle.dns_tools.specs.declared.stop.TurnFaultText.TheVariants.{NoDatagram, NotSent}
+use Rattle.dns_tools.specs.declared.stop.TurnFaultText.TheVariants.{StreamNotRead, StreamNotWritten}
+use Rattle.dns_tools.specs.declared.stop.TurnFaultText.TheVariants.{StreamCut}
+use Rattle.dns_tools.specs.declared.stop.FaultText.{FaultText}
+use Rattle.dns_tools.specs.declared.stop.FaultText.TheVariants.{NoMemory, Usage}
+use Rattle.dns_tools.specs.declared.stop.FaultText.TheVariants.{SourceFailed as FileFailed}
+use Rattle.dns_tools.specs.declared.stop.FaultText.TheVariants.{SinkFailed as NotWritten}
 
 -- 0 if all was well, 1 if the input has a fault, 2 if the program could not finish
 abbrev pub status_of : {E : Type 0} → Result Bool E → ℕ
@@ -24,18 +24,18 @@ status_of (Ok false) = 1
 status_of (Err e) = 2
 
 -- the diagnostic for a run that stopped
-abbrev pub word_of : Stop → FaultWord
+abbrev pub word_of : Stop → FaultText
 word_of Memory = NoMemory
 word_of Source = FileFailed
 word_of Sink = NotWritten
 
 -- the diagnostic for arguments that `clap` refuses
-abbrev pub word_of_kind : ErrorKind → FaultWord
+abbrev pub word_of_kind : ErrorKind → FaultText
 word_of_kind OutOfMemory = NoMemory
 word_of_kind _ = Usage
 
 -- how a program ends: with a status, or with a diagnostic
-abbrev pub end_of : Result Bool Stop → Result ℕ FaultWord
+abbrev pub end_of : Result Bool Stop → Result ℕ FaultText
 end_of (Ok passes) = Ok (status_of {E = Stop} (Ok passes))
 end_of (Err stop) = Err (word_of stop)
 
@@ -44,12 +44,12 @@ abbrev pub status_of_turns : Bool → ℕ
 status_of_turns are_said = if are_said then 0 else 2
 
 -- the diagnostic for a turn over UDP that failed
-abbrev pub word_of_turn : TurnFault → TurnWord
+abbrev pub word_of_turn : TurnFault → TurnFaultText
 word_of_turn ReceiveFailed = NoDatagram
 word_of_turn SendFailed = NotSent
 
 -- the diagnostic for a session over a stream that ended early
-abbrev pub word_of_stream : StreamFault → TurnWord
+abbrev pub word_of_stream : StreamFault → TurnFaultText
 word_of_stream SourceFailed = StreamNotRead
 word_of_stream SinkFailed = StreamNotWritten
 word_of_stream Cut = StreamCut

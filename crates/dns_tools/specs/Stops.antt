@@ -1,7 +1,7 @@
 -- Which device caused a run to stop, by the counts of failures.
 use Rattle.std.specs.Prelude.{ℕ, ◌+◌, Result, Ok, Err}
-use Rattle.dns_tools.specs.declared.fault.Stop.{Stop}
-use Rattle.dns_tools.specs.declared.fault.Stop.TheVariants.{Memory, Source, Sink}
+use Rattle.dns_tools.specs.declared.stop.Stop.{Stop}
+use Rattle.dns_tools.specs.declared.stop.Stop.TheVariants.{Memory, Source, Sink}
 
 -- the source's failure count after a run: one more if and only if the run stopped because reading
 -- failed

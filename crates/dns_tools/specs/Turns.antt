@@ -4,7 +4,7 @@ use Rattle.dns_spec.specs.Names.{Octets}
 use Rattle.dns_spec.specs.Records.{ZoneContents}
 use Rattle.dns_name.specs.Counted.{failures_after}
 use Rattle.dns_serve.specs.Turns.{TurnOf}
-use Rattle.dns_serve.specs.declared.fault.TurnFault.{TurnFault}
+use Rattle.dns_serve.specs.declared.turn_fault.TurnFault.{TurnFault}
 
 -- The datagrams that a device has received and sent, if they are known, and the number of its
 -- failed calls.

@@ -11,7 +11,7 @@ ghost use Rattle.dns_tools.specs.Arguments.{is_word_fault, IsRefusal, service_of
 ghost use Rattle.dns_tools.specs.ClapCommands.{option_rule, bare_app, once_app, check_app};
 
 use crate::check::Flags;
-use crate::fault::FaultWord;
+use crate::stop::FaultText;
 use clap::{Arg, ArgAction, Command};
 use dns_answer::Limit;
 use dns_name::Name;
@@ -102,16 +102,16 @@ pub struct SocketWords<'a> {
 /// Fails with `usage` if the arguments are not of this form, or ORIGIN or FILE begins with `-`;
 /// else with `bad origin` if ORIGIN is not a name; and with `no memory` if allocation fails. There
 /// are no other options, not even for help or the version.
-pub fn serve_words<'a, S: AsStr>(alloc: Global, words: &'a [S]) -> Result<ServeWords<'a>, FaultWord>
+pub fn serve_words<'a, S: AsStr>(alloc: Global, words: &'a [S]) -> Result<ServeWords<'a>, FaultText>
     ensures asked { IfOk result (IsServeCall (map S.text words.entry.now)) }
-    ensures origin { result ≡ Err FaultWord.BadOrigin
+    ensures origin { result ≡ Err FaultText.BadOrigin
         → HasBadOrigin (AskToServe (map S.text words.entry.now)) }
-    ensures usage { result ≡ Err FaultWord.Usage
+    ensures usage { result ≡ Err FaultText.Usage
         → AskNothing (AskToServe (map S.text words.entry.now)) }
     ensures fault { IfErr result (λ fault. IsTrue (is_word_fault fault)) }
 {
     let Some((front, origin, file)) = zone_words(words) else {
-        return Err(FaultWord::Usage);
+        return Err(FaultText::Usage);
     };
     Ok(ServeWords {
         service: given_service(alloc, front)?,
@@ -126,16 +126,16 @@ pub fn serve_words<'a, S: AsStr>(alloc: Global, words: &'a [S]) -> Result<ServeW
 /// Fails with `usage` if the arguments are not of this form, or ORIGIN or FILE begins with `-`;
 /// else with `bad origin` if ORIGIN is not a name; and with `no memory` if allocation fails. There
 /// are no other options, not even for help or the version.
-pub fn check_words<'a, S: AsStr>(alloc: Global, words: &'a [S]) -> Result<CheckWords<'a>, FaultWord>
+pub fn check_words<'a, S: AsStr>(alloc: Global, words: &'a [S]) -> Result<CheckWords<'a>, FaultText>
     ensures asked { IfOk result (IsCheckCall (map S.text words.entry.now)) }
-    ensures origin { result ≡ Err FaultWord.BadOrigin
+    ensures origin { result ≡ Err FaultText.BadOrigin
         → HasBadOrigin (AskToCheck (map S.text words.entry.now)) }
-    ensures usage { result ≡ Err FaultWord.Usage
+    ensures usage { result ≡ Err FaultText.Usage
         → AskNothing (AskToCheck (map S.text words.entry.now)) }
     ensures fault { IfErr result (λ fault. IsTrue (is_word_fault fault)) }
 {
     let Some((options, origin, file)) = zone_words(words) else {
-        return Err(FaultWord::Usage);
+        return Err(FaultText::Usage);
     };
     Ok(CheckWords {
         flags: given_flags(alloc, options)?,
@@ -149,20 +149,20 @@ pub fn check_words<'a, S: AsStr>(alloc: Global, words: &'a [S]) -> Result<CheckW
 ///
 /// Fails with `usage` if and only if the arguments are not of this form, or ORIGIN or FILE begins
 /// with `-`; else with `bad origin` if ORIGIN is not a name.
-pub fn socket_words<'a, S: AsStr>(words: &'a [S]) -> Result<SocketWords<'a>, FaultWord>
+pub fn socket_words<'a, S: AsStr>(words: &'a [S]) -> Result<SocketWords<'a>, FaultText>
     ensures asked { IfOk result (IsSocketCall (map S.text words.entry.now)) }
-    ensures origin { result ≡ Err FaultWord.BadOrigin
+    ensures origin { result ≡ Err FaultText.BadOrigin
         → HasBadOrigin (AskAtSocket (map S.text words.entry.now)) }
-    ensures usage { result ≡ Err FaultWord.Usage
+    ensures usage { result ≡ Err FaultText.Usage
         → AskNothing (AskAtSocket (map S.text words.entry.now)) }
     ensures fault { IfErr result
-        (λ fault. (fault ≡ FaultWord.Usage) ⊎ (fault ≡ FaultWord.BadOrigin)) }
+        (λ fault. (fault ≡ FaultText.Usage) ⊎ (fault ≡ FaultText.BadOrigin)) }
 {
     let Some((front, origin, file)) = zone_words(words) else {
-        return Err(FaultWord::Usage);
+        return Err(FaultText::Usage);
     };
     let Some((transport, turns)) = said_turns_over(front) else {
-        return Err(FaultWord::Usage);
+        return Err(FaultText::Usage);
     };
     Ok(SocketWords {
         transport,
@@ -190,9 +190,9 @@ fn zone_words<'a, S: AsStr>(words: &'a [S]) -> Option<(&'a [S], &'a str, &'a str
 }
 
 // The service that the arguments before ORIGIN and FILE ask for.
-fn given_service<'a, S: AsStr>(alloc: Global, front: &'a [S]) -> Result<Service<'a>, FaultWord>
+fn given_service<'a, S: AsStr>(alloc: Global, front: &'a [S]) -> Result<Service<'a>, FaultText>
     ensures ok { IfOk result (λ s. IsService (map S.text front.entry.now) (service_of s)) }
-    ensures usage { result ≡ Err FaultWord.Usage → (a : ServiceAsked)
+    ensures usage { result ≡ Err FaultText.Usage → (a : ServiceAsked)
         → IsService (map S.text front.entry.now) a → ⊥ }
     ensures fault { IfErr result IsRefusal }
 {
@@ -202,16 +202,16 @@ fn given_service<'a, S: AsStr>(alloc: Global, front: &'a [S]) -> Result<Service<
         }
         _ => match said_service(front) {
             Some(service) => Ok(service),
-            None => Err(FaultWord::Usage),
+            None => Err(FaultText::Usage),
         },
     }
 }
 
 // The limit that the options of `once` ask for.
-fn given_limit<'a, S: AsStr>(alloc: Global, options: &'a [S]) -> Result<Limit, FaultWord>
+fn given_limit<'a, S: AsStr>(alloc: Global, options: &'a [S]) -> Result<Limit, FaultText>
     ensures ok { IfOk result (λ limit. map S.text options.entry.now
         ≡ limit_words (transport_of limit)) }
-    ensures usage { result ≡ Err FaultWord.Usage → (t : Transport)
+    ensures usage { result ≡ Err FaultText.Usage → (t : Transport)
         → map S.text options.entry.now ≡ limit_words t → ⊥ }
     ensures fault { IfErr result IsRefusal }
 {
@@ -223,7 +223,7 @@ fn given_limit<'a, S: AsStr>(alloc: Global, options: &'a [S]) -> Result<Limit, F
     if are_words(options, &[]) {
         return Ok(Limit::Udp);
     }
-    Err(FaultWord::Usage)
+    Err(FaultText::Usage)
 }
 
 // Parses the arguments before ORIGIN and FILE: `udp` or `tcp`, ADDR and TURNS.
@@ -243,10 +243,10 @@ fn said_service<'a, S: AsStr>(front: &'a [S]) -> Option<Service<'a>>
 }
 
 // Parses the arguments before ORIGIN and FILE: the options of the checker.
-fn given_flags<'a, S: AsStr>(alloc: Global, options: &'a [S]) -> Result<Flags, FaultWord>
+fn given_flags<'a, S: AsStr>(alloc: Global, options: &'a [S]) -> Result<Flags, FaultText>
     ensures ok { IfOk result (λ flags.
         AreOptions (options_of flags) (map S.text options.entry.now)) }
-    ensures usage { result ≡ Err FaultWord.Usage → (o : Options)
+    ensures usage { result ≡ Err FaultText.Usage → (o : Options)
         → AreOptions o (map S.text options.entry.now) → ⊥ }
     ensures fault { IfErr result IsRefusal }
 {
@@ -259,7 +259,7 @@ fn given_flags<'a, S: AsStr>(alloc: Global, options: &'a [S]) -> Result<Flags, F
     if are_options(options, flags) {
         return Ok(flags);
     }
-    Err(FaultWord::Usage)
+    Err(FaultText::Usage)
 }
 
 // Whether the arguments are these options.
@@ -339,9 +339,9 @@ fn is_dashed(word: &str) -> bool
 }
 
 // The name that ORIGIN spells, relative to the root, in lower case.
-fn given_origin(word: &str) -> Result<Name, FaultWord>
+fn given_origin(word: &str) -> Result<Name, FaultText>
     ensures ok { IfOk result (IsOrigin word.now) }
-    ensures err { IfErr result (λ fault. (fault ≡ FaultWord.BadOrigin) × IsNoOrigin word.now) }
+    ensures err { IfErr result (λ fault. (fault ≡ FaultText.BadOrigin) × IsNoOrigin word.now) }
 {
     let origin = Name::read_text(word.as_bytes(), &Name::root())?;
     Ok(origin.fold())

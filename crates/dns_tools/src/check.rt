@@ -3,12 +3,12 @@ ghost use Rattle.std.specs.Prelude.{◌≡◌, ◌<◌, ◌-◌, ◌^◌};
 ghost use Rattle.dns_spec.specs.Report.{failing, passing};
 ghost use Rattle.dns_tools.specs.Checked.{options_of, WrittenAs, CheckedAs};
 ghost use Rattle.dns_tools.specs.Load.{refusal_report};
-ghost use Rattle.dns_tools.specs.declared.fault.Stop.TheVariants.{Sink};
+ghost use Rattle.dns_tools.specs.declared.stop.Stop.TheVariants.{Sink};
 ghost use Rattle.dns_tools.specs.Stops.{source_failures_after, sink_failures_after};
 
-use crate::fault::{Outcome, Stop};
 use crate::load::{LoadFault, Refusal, load, write_refusal};
 use crate::report::write_loaded;
+use crate::stop::{Outcome, Stop};
 use dns_name::{Name, Tally};
 use dns_zone::{CheckedZone, PrintFault};
 use std::alloc::Global;

@@ -1,8 +1,8 @@
 //! The sockets of the system: a listening TCP socket and its connections, whose calls do not wait.
 ghost use Rattle.std.specs.Prelude.{◌≡◌, ◌⊎◌, [], None, IfErr};
 
-use crate::fault::{FaultWord, TurnWord};
 use crate::startup::word_or_no_memory;
+use crate::stop::{FaultText, TurnFaultText};
 use crate::watch::{Watch, is_unread};
 use dns_connections::{Found, Sockets, Stopped, Stream};
 use dns_serve::StreamFault;
@@ -184,12 +184,12 @@ impl<'a, R: Net + Clock + AllocGlobal> Epoll<'a, R> {
         rt: &'a R,
         listener: net::TcpListener,
         watch: Option<&Watch>,
-    ) -> Result<Epoll<'a, R>, FaultWord>
-        ensures { IfErr result (λ fault. (fault ≡ FaultWord.NotBound) ⊎ (fault ≡ FaultWord.NoMemory)) }
+    ) -> Result<Epoll<'a, R>, FaultText>
+        ensures { IfErr result (λ fault. (fault ≡ FaultText.NotBound) ⊎ (fault ≡ FaultText.NoMemory)) }
     {
         match Epoll::made(rt, listener, watch) {
             Ok(sockets) => Ok(sockets),
-            Err(error) => Err(word_or_no_memory(&error, FaultWord::NotBound)),
+            Err(error) => Err(word_or_no_memory(&error, FaultText::NotBound)),
         }
     }
 
@@ -256,7 +256,7 @@ impl<R: Clock> Epoll<'_, R> {
 
 impl<R: Clock + Eprint> Epoll<'_, R> {
     // Writes a diagnostic, unless an earlier one could not be written.
-    fn say(&mut self, word: TurnWord)
+    fn say(&mut self, word: TurnFaultText)
         ensures { self.new.connected ≡ self.old.connected }
     {
         self.are_said = self.are_said && self.rt.eprintln(word).is_ok();
@@ -358,11 +358,11 @@ impl<R: Clock + Eprint> Sockets for Epoll<'_, R> {
     }
 
     fn report(&mut self, fault: StreamFault) {
-        self.say(TurnWord::from(fault));
+        self.say(TurnFaultText::from(fault));
     }
 
     fn report_refusal(&mut self) {
-        self.say(TurnWord::NotAccepted);
+        self.say(TurnFaultText::NotAccepted);
     }
 
     fn now(&mut self) -> Duration {

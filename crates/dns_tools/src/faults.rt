@@ -14,12 +14,12 @@ ghost use Rattle.dns_master.specs.ListingForm.{shown_fault};
 ghost use Rattle.dns_name.specs.Counted.{Writes};
 ghost use Rattle.dns_tools.specs.Checked.{ReportedAs};
 ghost use Rattle.dns_tools.specs.Listed.{ListedAs, stop_of_code, list_report, IsAt};
-ghost use Rattle.dns_tools.specs.declared.fault.Stop.TheVariants.{Memory};
+ghost use Rattle.dns_tools.specs.declared.stop.Stop.TheVariants.{Memory};
 ghost use Rattle.dns_tools.specs.Stops.{source_failures_after, sink_failures_after};
 
-use crate::fault::{Outcome, Stop};
-use crate::parts::{LinePart, write_parts};
+use crate::line_parts::{LinePart, write_parts};
 use crate::report::write_check_faults;
+use crate::stop::{Outcome, Stop};
 use dns_master::{EntryFault, FaultList, ReadCode, ReadFault, list_text, read_octets};
 use dns_name::{Name, SinkFailed, Tally};
 use dns_zone::{BuildFault, CheckFault, Store};

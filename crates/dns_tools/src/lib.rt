@@ -5,18 +5,18 @@
 mod arguments;
 mod check;
 mod epoll;
-mod fault;
 mod faults;
 mod line;
+mod line_parts;
 mod listen;
 mod load;
 mod message;
 mod nonblocking;
 mod once;
-mod parts;
 mod report;
 mod socket;
 mod startup;
+mod stop;
 mod watch;
 
 pub use arguments::{
@@ -24,15 +24,15 @@ pub use arguments::{
 };
 pub use check::{Flags, check_zone};
 pub use epoll::{Connection, Epoll};
-pub use fault::{
-    FAULT_STATUS, FaultWord, Outcome, Stop, TurnWord, end_of, exit_status, status_of_turns,
-};
 pub use faults::list_faults;
 pub use listen::{Ending, given_listener, given_socket, listener_at, serve_datagrams, socket_at};
 pub use load::{LoadFault, Refusal, load_zone, write_refusal};
 pub use message::run_message;
 pub use nonblocking::Nonblocking;
-pub use once::{LineRoom, run_once, run_once_in};
+pub use once::{LineBuffers, run_once, run_once_in};
 pub use socket::Socket;
 pub use startup::{end, finish, given_words, open_file, refuse, say, say_serving};
+pub use stop::{
+    FAULT_STATUS, FaultText, Outcome, Stop, TurnFaultText, end_of, exit_status, status_of_turns,
+};
 pub use watch::Watch;

@@ -4,10 +4,10 @@ ghost use Rattle.std.specs.Bool.{OnTrue, OnFalse};
 ghost use Rattle.dns_spec.specs.Names.{Octets};
 ghost use Rattle.hex.specs.Hex.{decode_of};
 ghost use Rattle.dns_name.specs.Counted.{failures_after};
-ghost use Rattle.dns_tools.specs.declared.fault.Stop.TheVariants.{Source};
+ghost use Rattle.dns_tools.specs.declared.stop.Stop.TheVariants.{Source};
 ghost use Rattle.dns_tools.specs.declared.line.TheConstants.{MOST_DIGITS, MOST_LINE_OCTETS, PIECE};
 
-use crate::fault::Stop;
+use crate::stop::Stop;
 use dns_name::{SourceFailed, Tally};
 use std::alloc::{AllocError, Global};
 use std::io::Read;

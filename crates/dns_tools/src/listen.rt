@@ -3,10 +3,10 @@
 ghost use Rattle.std.specs.Prelude.{◌≡◌, ◌+◌, ◌^◌, ◌<◌, Bool, true, false, IfOk, IfErr};
 ghost use Rattle.dns_tools.specs.Turns.{TakesTurns, EndsTurns};
 
-use crate::fault::{FaultWord, TurnWord};
 use crate::socket::Socket;
+use crate::stop::{FaultText, TurnFaultText};
 use crate::watch::Watch;
-use dns_answer::UdpDraft;
+use dns_answer::UdpBuilder;
 use dns_serve::{Datagrams, udp_turn_in};
 use dns_zone::Zone;
 use std::io::ErrorKind;
@@ -19,29 +19,29 @@ const MOST_PROBES: u32 = 16;
 
 /// A UDP socket at an address, which has received nothing yet. Fails with `bind` if the address
 /// can't be used.
-pub fn socket_at<'a, R: Net + Clock>(rt: &'a R, address: &str) -> Result<Socket<'a, R>, FaultWord>
+pub fn socket_at<'a, R: Net + Clock>(rt: &'a R, address: &str) -> Result<Socket<'a, R>, FaultText>
     ensures socket { IfOk result (λ socket. socket ≡ record {
       failures = 0;
       has_sender = false;
       over = false;
     }) }
-    ensures fault { IfErr result (λ fault. fault ≡ FaultWord.NotBound) }
+    ensures fault { IfErr result (λ fault. fault ≡ FaultText.NotBound) }
 {
     match UdpSocket::bind(rt, socket_address(address)?) {
         Ok(socket) => Ok(Socket::new(socket, rt, None)),
-        Err(_) => Err(FaultWord::NotBound),
+        Err(_) => Err(FaultText::NotBound),
     }
 }
 
 /// A listening TCP socket at an address. Fails with `bind` if the address can't be used.
-pub fn listener_at<R>(rt: &R, address: &str) -> Result<TcpListener, FaultWord>
+pub fn listener_at<R>(rt: &R, address: &str) -> Result<TcpListener, FaultText>
 where
     R: Net<Listener = TcpListener, Stream = TcpStream>,
-    ensures { IfErr result (λ fault. fault ≡ FaultWord.NotBound) }
+    ensures { IfErr result (λ fault. fault ≡ FaultText.NotBound) }
 {
     match TcpListener::bind(rt, socket_address(address)?) {
         Ok(listener) => Ok(listener),
-        Err(_) => Err(FaultWord::NotBound),
+        Err(_) => Err(FaultText::NotBound),
     }
 }
 
@@ -54,13 +54,13 @@ pub fn given_socket<'a, I: AsFd, C: Clock>(
     given: &I,
     clock: &'a C,
     watch: Watch,
-) -> Result<Socket<'a, C>, FaultWord>
+) -> Result<Socket<'a, C>, FaultText>
     ensures socket { IfOk result (λ socket. socket ≡ record {
       failures = 0;
       has_sender = false;
       over = false;
     }) }
-    ensures fault { IfErr result (λ fault. fault ≡ FaultWord.NotBound) }
+    ensures fault { IfErr result (λ fault. fault ≡ FaultText.NotBound) }
 {
     let socket = UdpSocket::from(copy_of(given)?);
     if socket
@@ -69,13 +69,13 @@ pub fn given_socket<'a, I: AsFd, C: Clock>(
     {
         return Ok(Socket::new(socket, clock, Some(watch)));
     }
-    Err(FaultWord::NotBound)
+    Err(FaultText::NotBound)
 }
 
 /// The TCP socket that the process was given. Fails with `bind` if the given descriptor is not a
 /// TCP socket with an address and a port, or if it is a connection.
-pub fn given_listener<I: AsFd>(given: &I) -> Result<TcpListener, FaultWord>
-    ensures { IfErr result (λ fault. fault ≡ FaultWord.NotBound) }
+pub fn given_listener<I: AsFd>(given: &I) -> Result<TcpListener, FaultText>
+    ensures { IfErr result (λ fault. fault ≡ FaultText.NotBound) }
 {
     let listener = TcpListener::from(copy_of(given)?);
     let stream = TcpStream::from(copy_of(given)?);
@@ -87,7 +87,7 @@ pub fn given_listener<I: AsFd>(given: &I) -> Result<TcpListener, FaultWord>
     if is_tcp && has_port && stream.peer_addr().is_err() {
         return Ok(listener);
     }
-    Err(FaultWord::NotBound)
+    Err(FaultText::NotBound)
 }
 
 // Whether a socket with this address is a UDP socket with a port, and not connected.
@@ -112,12 +112,12 @@ fn refuses_port_0(socket: &UdpSocket, ip: IpAddr) -> bool {
 }
 
 // A duplicate of the given descriptor.
-fn copy_of<I: AsFd>(given: &I) -> Result<OwnedFd, FaultWord>
-    ensures { IfErr result (λ fault. fault ≡ FaultWord.NotBound) }
+fn copy_of<I: AsFd>(given: &I) -> Result<OwnedFd, FaultText>
+    ensures { IfErr result (λ fault. fault ≡ FaultText.NotBound) }
 {
     match given.as_fd().try_clone_to_owned() {
         Ok(copy) => Ok(copy),
-        Err(_) => Err(FaultWord::NotBound),
+        Err(_) => Err(FaultText::NotBound),
     }
 }
 
@@ -155,25 +155,25 @@ pub fn serve_datagrams<E: Eprint, D: Datagrams + Ending>(
         }) }
 {
     let mut room = [0; 512];
-    let mut draft = UdpDraft::new();
+    let mut builder = UdpBuilder::new();
     let mut are_said = true;
     'turns: for _ in 0..turns {
-        if let Err(fault) = udp_turn_in(zone, device, &mut room, &mut draft) {
+        if let Err(fault) = udp_turn_in(zone, device, &mut room, &mut builder) {
             if device.is_over() {
                 break;
             }
-            are_said = are_said && rt.eprintln(TurnWord::from(fault)).is_ok();
+            are_said = are_said && rt.eprintln(TurnFaultText::from(fault)).is_ok();
         }
     }
     are_said
 }
 
 // Parses an address and a port. Host names are not looked up.
-fn socket_address(address: &str) -> Result<SocketAddr, FaultWord>
-    ensures { IfErr result (λ fault. fault ≡ FaultWord.NotBound) }
+fn socket_address(address: &str) -> Result<SocketAddr, FaultText>
+    ensures { IfErr result (λ fault. fault ≡ FaultText.NotBound) }
 {
     match address.parse() {
         Ok(address) => Ok(address),
-        Err(_) => Err(FaultWord::NotBound),
+        Err(_) => Err(FaultText::NotBound),
     }
 }

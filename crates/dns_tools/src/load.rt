@@ -1,13 +1,13 @@
 //! Loads a zone from its file.
 ghost use Rattle.std.specs.Prelude.{◌≡◌, ◌-◌, ◌^◌, ◌<◌};
 ghost use Rattle.dns_name.specs.Counted.{Writes};
-ghost use Rattle.dns_tools.specs.declared.fault.Stop.TheVariants.{Memory};
+ghost use Rattle.dns_tools.specs.declared.stop.Stop.TheVariants.{Memory};
 ghost use Rattle.dns_tools.specs.declared.load.LoadFault.TheVariants.{Stopped};
 ghost use Rattle.dns_tools.specs.Load.{Loads, fault_of_read, refusal_report};
 
-use crate::fault::Stop;
-use crate::parts::{LinePart, write_parts};
+use crate::line_parts::{LinePart, write_parts};
 use crate::report::write_check_faults;
+use crate::stop::Stop;
 use dns_master::{ReadCode, ReadFault};
 use dns_name::{Name, SinkFailed, Tally};
 use dns_zone::{BuildFault, CheckFault, CheckedZone, Store, Zone};

@@ -12,9 +12,9 @@ ghost use Rattle.dns_tools.specs.KeptLine.{kept_message};
 ghost use Rattle.dns_tools.specs.declared.line.TheConstants.{MOST_LINE_OCTETS};
 ghost use Rattle.dns_tools.specs.Stops.{source_failures_after, sink_failures_after};
 
-use crate::fault::{Outcome, Stop};
 use crate::line::{Line, MOST_LINE_OCTETS, PIECE};
-use crate::parts::{LinePart, write_parts};
+use crate::line_parts::{LinePart, write_parts};
+use crate::stop::{Outcome, Stop};
 use dns_name::{SinkFailed, Tally};
 use dns_rdata::RType;
 use dns_wire::{Message, Question, WireFault, WireRecord, read_message};

@@ -11,9 +11,9 @@ ghost use Rattle.dns_tools.specs.Stops.{source_failures_after, sink_failures_aft
 ghost use Rattle.dns_tools.specs.declared.line.TheConstants.{MOST_LINE_OCTETS, PIECE};
 ghost use Rattle.dns_tools.specs.declared.once.TheConstants.{MOST_ANSWER};
 
-use crate::fault::{Outcome, Stop};
 use crate::line::{Line, MOST_LINE_OCTETS, PIECE};
-use dns_answer::{TcpDraft, UdpDraft, respond_in};
+use crate::stop::{Outcome, Stop};
+use dns_answer::{TcpBuilder, UdpBuilder, respond_in};
 use dns_name::{SinkFailed, Tally};
 use dns_zone::{Steps, Zone};
 use std::alloc::{AllocError, Global};
@@ -52,33 +52,33 @@ pub fn run_once<R: Read, W: Write>(
     ensures unread { result ≡ Err Stop.Memory → source.new ≡ source.old }
     ensures unwritten { result ≡ Err Stop.Memory → sink.new ≡ sink.old }
 {
-    let room = LineRoom::new(alloc)?;
+    let room = LineBuffers::new(alloc)?;
     run_once_in(zone, limit, source, sink, room)
 }
 
 /// The buffers of a run: for the octets that are read at once, for the unfinished line, for the
-/// reply and its digits, and for the drafts of replies.
+/// reply and its digits, and for the builders of replies.
 #[derive(Drop)]
-pub struct LineRoom {
+pub struct LineBuffers {
     piece: Vec<u8>,
     line: Line,
     room: Vec<u8>,
-    drafts: Drafts,
+    builders: ReplyBuilders,
     ghost piece_octets: { vec_len piece ≡ PIECE },
     ghost fresh: { line ≡ no_line },
     ghost room_octets: { vec_len room ≡ MOST_ANSWER },
 }
 
-impl LineRoom {
+impl LineBuffers {
     /// New buffers, about 460,000 octets in all. Fails only if allocation fails.
-    pub fn new(alloc: Global) -> Result<LineRoom, AllocError> {
-        Ok(LineRoom {
+    pub fn new(alloc: Global) -> Result<LineBuffers, AllocError> {
+        Ok(LineBuffers {
             piece: vec![in alloc; 0; PIECE]?,
             line: Line::new(alloc)?,
             room: vec![in alloc; 0; MOST_ANSWER]?,
-            drafts: Drafts {
-                udp: UdpDraft::new(),
-                tcp: Box::new(alloc, TcpDraft::new())?,
+            builders: ReplyBuilders {
+                udp: UdpBuilder::new(),
+                tcp: Box::new(alloc, TcpBuilder::new())?,
             },
         })
     }
@@ -91,7 +91,7 @@ pub fn run_once_in<R: Read, W: Write>(
     limit: dns_answer::Limit,
     source: &mut Tally<R>,
     sink: &mut Tally<W>,
-    room: LineRoom,
+    room: LineBuffers,
 ) -> Outcome
     requires source { source.old.failures < 2 ^ 64 - 1 }
     requires sink { sink.old.failures < 2 ^ 64 - 1 }
@@ -101,11 +101,11 @@ pub fn run_once_in<R: Read, W: Write>(
         (session R.remaining W.contents source.old source.new sink.old sink.new) result }
     ensures memory { IfErr result (λ stop. stop ≢ Stop.Memory) }
 {
-    let LineRoom {
+    let LineBuffers {
         piece,
         line,
         room,
-        drafts,
+        builders,
     } = room;
     let mut piece = piece;
     let mut exchange = Exchange {
@@ -113,7 +113,7 @@ pub fn run_once_in<R: Read, W: Write>(
         limit,
         line,
         room,
-        drafts,
+        builders,
         are_all_messages: true,
     };
     exchange.run(piece.as_mut_slice(), source, sink)
@@ -128,7 +128,7 @@ struct Exchange<'z> {
     line: Line,
     // Holds a line's octets, and then the digits of its reply.
     room: Vec<u8>,
-    drafts: Drafts,
+    builders: ReplyBuilders,
     are_all_messages: bool,
     ghost room_octets: { vec_len room ≡ MOST_ANSWER },
 }
@@ -204,19 +204,19 @@ impl<'z> Exchange<'z> {
             && is_some (kept_message self.old.line))) }
         ensures task { OnOk result (reply_of self.new ≡ reply_of self.old) }
     {
-        let (room, drafts) = (self.room.as_mut_slice(), &mut self.drafts);
-        let is_message = answer(self.zone, self.limit, drafts, &self.line, room, sink)?;
+        let (room, builders) = (self.room.as_mut_slice(), &mut self.builders);
+        let is_message = answer(self.zone, self.limit, builders, &self.line, room, sink)?;
         self.are_all_messages = self.are_all_messages && is_message;
         self.line.clear();
         Ok(())
     }
 }
 
-// Buffers for the drafts of replies. The draft for TCP is large, so it is not on the stack.
+// Buffers for the builders of replies. The builder for TCP is large, so it is not on the stack.
 #[derive(Drop)]
-struct Drafts {
-    udp: UdpDraft,
-    tcp: Box<TcpDraft>,
+struct ReplyBuilders {
+    udp: UdpBuilder,
+    tcp: Box<TcpBuilder>,
 }
 
 // Answers a line, and returns whether the line is a message. `room` is for the line's octets, then
@@ -224,7 +224,7 @@ struct Drafts {
 fn answer<W: Write>(
     zone: &Zone,
     limit: dns_answer::Limit,
-    drafts: &mut Drafts,
+    builders: &mut ReplyBuilders,
     line: &Line,
     room: &mut [u8],
     sink: &mut Tally<W>,
@@ -242,11 +242,11 @@ fn answer<W: Write>(
     let (mut steps, datagram) = (Steps::new(zone), &room[..len]);
     match limit {
         dns_answer::Limit::Udp => {
-            let reply = respond_in(&mut steps, datagram, &mut drafts.udp);
+            let reply = respond_in(&mut steps, datagram, &mut builders.udp);
             write_reply(reply, room, sink)?;
         }
         dns_answer::Limit::Tcp => {
-            let reply = respond_in(&mut steps, datagram, &mut drafts.tcp);
+            let reply = respond_in(&mut steps, datagram, &mut builders.tcp);
             write_reply(reply, room, sink)?;
         }
     }

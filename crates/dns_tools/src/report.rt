@@ -4,7 +4,7 @@ ghost use Rattle.std.specs.List.{flat_map};
 ghost use Rattle.dns_spec.specs.Report.{fault_report, loaded_report, serving_report};
 ghost use Rattle.dns_name.specs.Counted.{Writes};
 
-use crate::parts::{LinePart, write_parts};
+use crate::line_parts::{LinePart, write_parts};
 use dns_name::{SinkFailed, Tally};
 use dns_zone::{CheckFault, CheckedZone, Zone};
 use std::io::Write;

@@ -4,10 +4,10 @@ ghost use Rattle.std.specs.Prelude.{◌≡◌, ◌⊎◌, Ok, Err, IfOk, IfErr, 
 ghost use Rattle.std.specs.Io.Buffered.{writer_contents};
 ghost use Rattle.std.specs.Io.KnownBytes.{Keeps};
 
-use crate::fault::{FAULT_STATUS, FaultWord, Outcome, Stop, end_of, exit_status};
 use crate::load::{Refusal, write_refusal};
 use crate::nonblocking::Nonblocking;
 use crate::report::write_serving;
+use crate::stop::{FAULT_STATUS, FaultText, Outcome, Stop, end_of, exit_status};
 use dns_name::Tally;
 use dns_zone::Zone;
 use std::alloc::Global;
@@ -19,11 +19,11 @@ use std::{env, fs};
 
 /// The arguments after the program's own name, which is ignored. Fails with `usage` if an argument
 /// is not text, because no program takes such arguments, and with `no memory` if allocation fails.
-pub fn given_words<R: Env + AllocGlobal>(rt: &R) -> Result<Vec<String>, FaultWord>
-    ensures { IfErr result (λ fault. (fault ≡ FaultWord.Usage) ⊎ (fault ≡ FaultWord.NoMemory)) }
+pub fn given_words<R: Env + AllocGlobal>(rt: &R) -> Result<Vec<String>, FaultText>
+    ensures { IfErr result (λ fault. (fault ≡ FaultText.Usage) ⊎ (fault ≡ FaultText.NoMemory)) }
 {
     let given = env::args(&(Arguments { rt }, rt.alloc()));
-    let given = given.map_err(|error| word_or_no_memory(&error, FaultWord::Usage))?;
+    let given = given.map_err(|error| word_or_no_memory(&error, FaultText::Usage))?;
     let mut words = Vec::new(rt.alloc());
     for word in given {
         words.push(word)?;
@@ -56,11 +56,11 @@ impl<R: Env> Env for Arguments<'_, R> {
 
 /// Opens the file at a path for reading. Fails with `R16` if it can't be opened, and with
 /// `no memory` if allocation fails.
-pub fn open_file<R: Files>(rt: &R, path: &str) -> Result<R::File, FaultWord>
-    ensures { IfErr result (λ fault. (fault ≡ FaultWord.SourceFailed)
-        ⊎ (fault ≡ FaultWord.NoMemory)) }
+pub fn open_file<R: Files>(rt: &R, path: &str) -> Result<R::File, FaultText>
+    ensures { IfErr result (λ fault. (fault ≡ FaultText.SourceFailed)
+        ⊎ (fault ≡ FaultText.NoMemory)) }
 {
-    fs::open(rt, path).map_err(|error| word_or_no_memory(&error, FaultWord::SourceFailed))
+    fs::open(rt, path).map_err(|error| word_or_no_memory(&error, FaultText::SourceFailed))
 }
 
 /// Flushes the buffer of a report if its run finished, and returns the device under the buffer.
@@ -91,9 +91,9 @@ pub fn refuse<R: Clock + AllocGlobal, E: Print>(
     rt: &R,
     errors: &E,
     refusal: &Refusal,
-) -> Result<u8, FaultWord>
+) -> Result<u8, FaultText>
     ensures status { IfOk result (λ status. (status ≡ 1) ⊎ (status ≡ 2)) }
-    ensures fault { IfErr result (λ fault. fault ≡ FaultWord.NoMemory) }
+    ensures fault { IfErr result (λ fault. fault ≡ FaultText.NoMemory) }
 {
     let mut sink = Tally::new(buffered_stream(rt, errors)?);
     let written = write_refusal(refusal, &mut sink);
@@ -107,9 +107,9 @@ pub fn refuse<R: Clock + AllocGlobal, E: Print>(
 
 /// Writes the line to standard output that says that a zone is served. Fails with `P1` if that
 /// can't be written.
-pub fn say_serving<R: Clock + Print + AllocGlobal>(rt: &R, zone: &Zone) -> Result<(), FaultWord>
+pub fn say_serving<R: Clock + Print + AllocGlobal>(rt: &R, zone: &Zone) -> Result<(), FaultText>
     ensures { IfErr result
-        (λ fault. (fault ≡ FaultWord.SinkFailed) ⊎ (fault ≡ FaultWord.NoMemory)) }
+        (λ fault. (fault ≡ FaultText.SinkFailed) ⊎ (fault ≡ FaultText.NoMemory)) }
 {
     let mut sink = Tally::new(buffered_stream(rt, rt)?);
     let written = write_serving(zone, &mut sink);
@@ -126,18 +126,18 @@ pub fn say_serving<R: Clock + Print + AllocGlobal>(rt: &R, zone: &Zone) -> Resul
 fn buffered_stream<'a, R: Clock + AllocGlobal, P: Print>(
     rt: &'a R,
     stream: &'a P,
-) -> Result<BufWriter<Nonblocking<'a, io::Printer<'a, P>, R>>, FaultWord>
-    ensures { IfErr result (λ fault. fault ≡ FaultWord.NoMemory) }
+) -> Result<BufWriter<Nonblocking<'a, io::Printer<'a, P>, R>>, FaultText>
+    ensures { IfErr result (λ fault. fault ≡ FaultText.NoMemory) }
 {
     match BufWriter::new(rt.alloc(), Nonblocking::new(io::writer(stream), rt)) {
         Ok(buffered) => Ok(buffered),
-        Err(_) => Err(FaultWord::NoMemory),
+        Err(_) => Err(FaultText::NoMemory),
     }
 }
 
 /// The exit status of a program: the given one, or, if the program stopped early, 2, after its
 /// diagnostic was printed.
-pub fn end(rt: &impl Eprint, status: Result<u8, FaultWord>) -> u8
+pub fn end(rt: &impl Eprint, status: Result<u8, FaultText>) -> u8
     ensures said { IfErr status (λ _. result ≡ 2) }
     ensures status { IfOk status (λ status. result ≡ status) }
 {
@@ -149,18 +149,18 @@ pub fn end(rt: &impl Eprint, status: Result<u8, FaultWord>) -> u8
 
 /// Writes a diagnostic to standard error, and returns the exit status for it, 2, even if it can't
 /// be written.
-pub fn say(rt: &impl Eprint, word: FaultWord) -> u8
+pub fn say(rt: &impl Eprint, word: FaultText) -> u8
     ensures { result ≡ 2 }
 {
     let _written = rt.eprintln(word);
     FAULT_STATUS
 }
 
-pub(crate) fn word_or_no_memory(error: &Error, word: FaultWord) -> FaultWord
-    ensures { (result ≡ word) ⊎ (result ≡ FaultWord.NoMemory) }
+pub(crate) fn word_or_no_memory(error: &Error, word: FaultText) -> FaultText
+    ensures { (result ≡ word) ⊎ (result ≡ FaultText.NoMemory) }
 {
     if error.kind() == ErrorKind::OutOfMemory {
-        FaultWord::NoMemory
+        FaultText::NoMemory
     } else {
         word
     }

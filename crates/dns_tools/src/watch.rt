@@ -2,7 +2,7 @@
 //! its end of the pipe.
 ghost use Rattle.std.specs.Prelude.{◌≡◌, ◌⊎◌, IfErr};
 
-use crate::fault::FaultWord;
+use crate::stop::FaultText;
 use mio::event::Event;
 use mio::unix::SourceFd;
 use mio::{Events, Interest, Poll, Token};
@@ -28,11 +28,11 @@ pub struct Watch {
 impl Watch {
     /// A watch that has not found an end yet. Fails with `bind` if the process has no descriptor
     /// left for it, and with `no memory` if allocation fails.
-    pub fn new<R: Net + AllocGlobal, O: AsRawFd>(rt: &R, output: &O) -> Result<Watch, FaultWord>
-        ensures { IfErr result (λ fault. (fault ≡ FaultWord.NotBound) ⊎ (fault ≡ FaultWord.NoMemory)) }
+    pub fn new<R: Net + AllocGlobal, O: AsRawFd>(rt: &R, output: &O) -> Result<Watch, FaultText>
+        ensures { IfErr result (λ fault. (fault ≡ FaultText.NotBound) ⊎ (fault ≡ FaultText.NoMemory)) }
     {
         let Ok(poll) = Poll::new(rt) else {
-            return Err(FaultWord::NotBound);
+            return Err(FaultText::NotBound);
         };
         let watch = Watch {
             poll,

@@ -1,5 +1,5 @@
 -- Data and records are written part by part.
-use Rattle.dns_wire.proofs.Common.{◌≡◌, ◌*◌, ◌+◌, ◌-◌, ◌≤◌, ◌∙◌, ℕ, Bool, true, false, List, [], ◌∷◌, ◌++◌, length, take, drop, refl, sym, ap, ap₂, subst, subst₂, arith, append_assoc, append-nil, length-append, take_at, drop_at, take-append-add, Octets, class_in, Part, octets, name, laid_parts, Placed, Laid, octets16, octets32, data_laid, data_by, Kept, suffix_number, Follows, Holds, Layout, octets_laid, name_laid, parts_laid, tail_laid, Draft, known_places, Writes, zero, suc, length-drop, suc-mul, laid_front, nil_from_length, take-append-drop}
+use Rattle.dns_wire.proofs.Common.{◌≡◌, ◌*◌, ◌+◌, ◌-◌, ◌≤◌, ◌∙◌, ℕ, Bool, true, false, List, [], ◌∷◌, ◌++◌, length, take, drop, refl, sym, ap, ap₂, subst, subst₂, arith, append_assoc, append-nil, length-append, take_at, drop_at, take-append-add, Octets, class_in, Part, octets, name, laid_parts, Placed, Laid, octets16, octets32, data_laid, data_by, Kept, suffix_number, Follows, Holds, Layout, octets_laid, name_laid, parts_laid, tail_laid, PartialMessage, known_places, Writes, zero, suc, length-drop, suc-mul, laid_front, nil_from_length, take-append-drop}
 use Rattle.dns_wire.proofs.AskedLemmas.{kept_same}
 use Rattle.dns_wire.proofs.NameWritten.{holds_octets}
 use Rattle.dns_wire.proofs.Steps.{grows_again, writes_as, writes_both, writes_past, both_laid}
@@ -38,7 +38,7 @@ runs_laid k (suc m) d long ms p =
     ap (λ x. octets_laid x ms p) (sym (take-append-drop k d))
     ∙ ap (laid_front (take k d) []) (runs_laid k m (drop k d) more ms (p + length (take k d)))
 
-pub writes_runs : {head head' : Octets → ℕ} {d d' : Draft} {fits : Bool} (k m : ℕ) (o : Octets)
+pub writes_runs : {head head' : Octets → ℕ} {d d' : PartialMessage} {fits : Bool} (k m : ℕ) (o : Octets)
     → length o ≡ m * k → Writes head head' d d' (octets_laid o) fits
     → Writes head head' d d' (all_laid (runs k m o)) fits
 writes_runs k m o long =
@@ -90,20 +90,20 @@ holds_again : {head : Octets → ℕ} {ms : List Placed} {b b' : Octets} {ks ks'
 holds_again here there = grind arith
 
 -- a part that was written, and the parts after it
-pub writes_more : {head head' head'' : Octets → ℕ} {d d' d'' : Draft} {t fits : Bool}
+pub writes_more : {head head' head'' : Octets → ℕ} {d d' d'' : PartialMessage} {t fits : Bool}
     (x : Part) (ps : List Part) → t ≡ true → Writes head head' d d' (part_laid x) t → Writes
     head' head'' d' d'' (all_laid ps) fits → Writes head head'' d d'' (all_laid (x ∷ ps)) fits
 writes_more x ps is first next =
     writes_as (both_laid (part_laid x) (all_laid ps))
     (all_laid (x ∷ ps)) (data_more x ps) (writes_both (part_laid x) (all_laid ps) (λ _ _ _. tt) is first next)
 
-pub writes_last : {head head' : Octets → ℕ} {d d' : Draft} {fits : Bool} (x : Part)
+pub writes_last : {head head' : Octets → ℕ} {d d' : PartialMessage} {fits : Bool} (x : Part)
     → Writes head head' d d' (part_laid x) fits → Writes head head' d d' (all_laid (x ∷ [])) fits
 writes_last x w = writes_as (part_laid x) (all_laid (x ∷ [])) (data_last x) w
 
 -- if the first part does not fit, the parts do not
 pub writes_short : {head head' : Octets → ℕ}
-    {d d' : Draft} {t fits : Bool} (x : Part) (ps : List Part) → t ≡ false → fits ≡ false
+    {d d' : PartialMessage} {t fits : Bool} (x : Part) (ps : List Part) → t ≡ false → fits ≡ false
     → Writes head head' d d' (part_laid x) t → Writes head head' d d' (all_laid (x ∷ ps)) fits
 writes_short x ps is is_too w = writes_past (part_laid x) (all_laid (x ∷ ps)) is is_too
     (λ ms p. let l =
@@ -115,13 +115,13 @@ writes_short x ps is is_too w = writes_past (part_laid x) (all_laid (x ∷ ps)) 
 
 -- the parts of data
 pub writes_parts : {head head' : Octets → ℕ}
-    {d d' : Draft} {fits : Bool} {ps : List Part} (t : ℕ) (o : Octets) → laid_parts t o ≡ ps
+    {d d' : PartialMessage} {fits : Bool} {ps : List Part} (t : ℕ) (o : Octets) → laid_parts t o ≡ ps
     → Writes head head' d d' (all_laid ps) fits → Writes head head' d d' (parts_laid t o) fits
 writes_parts {head} {head'} {d} {d'} {fits} t o is w =
     subst (λ ps. Writes head head' d d' (all_laid ps) fits) (sym is) w
 
 -- After the data is written, its length is written into octets that are in no name.
-pub tail_written : {head head' : Octets → ℕ} {d d' d'' : Draft} (t ttl : ℕ) (o b : Octets)
+pub tail_written : {head head' : Octets → ℕ} {d d' d'' : PartialMessage} (t ttl : ℕ) (o b : Octets)
     → d.asked_end ≤ length d.octets → Writes head head d d' (octets_laid (numbers_of t ttl 0)) true
     → Writes head head' d' d'' (parts_laid t o) true → b ≡ take (length d.octets + 8) d''.octets
     ++ (octets16 (length d''.octets - length d.octets - 10) ++ drop (length d.octets + 10)

@@ -30,10 +30,10 @@ pub long_name_none : (b : Octets) (i e j : ℕ) (n : DomainName)
 long_name_none b i e j n there past = grind (arith, lt-leb)
 
 -- a field other than a name: it is cut from the front of the octets that are left, and appended
-pub field_read : (b : Octets) (p : Field) (i e : ℕ) (part : Part) (rest lent old now : Octets)
+pub field_read : (b : Octets) (p : Field) (i e : ℕ) (part : Part) (rest borrowed old now : Octets)
     → p ≢ domain → field_front p (take (e - i) (drop i b)) ≡ Some (part, rest)
-    → part_octets part ≡ lent → now ≡ old ++ lent → IsFieldRead b p i e old now (e - length rest)
-field_read b p i e part rest lent old now other front lends appended =
+    → part_octets part ≡ borrowed → now ≡ old ++ borrowed → IsFieldRead b p i e old now (e - length rest)
+field_read b p i e part rest borrowed old now other front lends appended =
     grind (arith, field_own)
 
 -- the fault of the next field, or that no octet may follow the fields, is the fault of all

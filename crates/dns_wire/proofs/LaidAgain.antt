@@ -1,5 +1,5 @@
 -- A name that was laid out before is laid out again by the form that it had.
-use Rattle.dns_wire.proofs.Common.{◌≡◌, ◌↔◌, ℕ, zero, suc, ◌+◌, ◌<◌, ◌≤◌, Bool, true, false, cond, nat_le, List, [], ◌∷◌, ◌++◌, length, take, Option, None, Some, refl, sym, ap, ap₂, ◌∙◌, subst, arith, append_assoc, append-nil, length-append, le-leb, leb-true, leb-false, lt-leb, ◌⊎◌, inl, inr, false≢true, OnTrue, Octets, DomainName, wire, is_name, Placed, suffix_place, place_of, last_place, shared_place, shared_octets, suffix_to, shared_is, shared_to, shared_none, Kept, IsSharedAt, front_size, pointed_place, end_octets, asked_places, new_places, Holds, Follows, IsAsked, name_laid, Form, IsLaid, form_again, suffix_number, Counts, Draft, draft_of, HasNames, WritesAfter, known_places, with_octets, subst₂}
+use Rattle.dns_wire.proofs.Common.{◌≡◌, ◌↔◌, ℕ, zero, suc, ◌+◌, ◌<◌, ◌≤◌, Bool, true, false, cond, nat_le, List, [], ◌∷◌, ◌++◌, length, take, Option, None, Some, refl, sym, ap, ap₂, ◌∙◌, subst, arith, append_assoc, append-nil, length-append, le-leb, leb-true, leb-false, lt-leb, ◌⊎◌, inl, inr, false≢true, OnTrue, Octets, DomainName, wire, is_name, Placed, suffix_place, place_of, last_place, shared_place, shared_octets, suffix_to, shared_is, shared_to, shared_none, Kept, IsSharedAt, front_size, pointed_place, end_octets, asked_places, new_places, Holds, Follows, IsAsked, name_laid, Form, IsLaid, form_again, suffix_number, Counts, PartialMessage, partial_of, HasNames, WritesAfter, known_places, with_octets, subst₂}
 use Rattle.std.specs.Bool.{OnFalse}
 use Rattle.dns_wire.proofs.AskedLemmas.{kept_more}
 use Rattle.dns_wire.proofs.NameWritten.{holds_name, place_left, place_new, shared_cut}
@@ -146,7 +146,7 @@ form_kept at (suc k, x) (inr high) =
     ap (λ b. cond b (zero, Some at) (suc k, x)) (lt-leb at last_place high)
 
 -- a name that fits is written as the octets of its layout, and its places are kept
-pub name_put : {known : List Placed → Type 0} {head head' : Octets → ℕ} {d d' : Draft}
+pub name_put : {known : List Placed → Type 0} {head head' : Octets → ℕ} {d d' : PartialMessage}
     {ks : List Kept} (n : DomainName) (o : Octets) → is_name n ≡ true
     → IsAsked d.octets d.asked_end → length d.octets + length o ≤ d.limit → head' ≡ head
     → Follows d.kept ks → d' ≡ record (with_octets d o) { kept = ks }
@@ -185,7 +185,7 @@ name_put {known} {head} {head'} {d} {ks = ks} n o ok asked room same more is lai
     })
 
 -- an owner none of whose places are kept is written, or does not fit
-pub owner_put : {known : List Placed → Type 0} {head : Octets → ℕ} {d d' : Draft} {t : Bool}
+pub owner_put : {known : List Placed → Type 0} {head : Octets → ℕ} {d d' : PartialMessage} {t : Bool}
     (n : DomainName) (form : Form) (front : Octets) → is_name n ≡ true
     → IsAsked d.octets d.asked_end → front ≡ take form.0 (wire n)
     → ((t ≡ true) ↔ (length d.octets + (length front + length (end_octets form.1)) ≤ d.limit))
@@ -225,9 +225,9 @@ owner_put {known} {head} {d} {t = false} n form front ok asked cut fits put not 
           };
     })
 
--- what holds for the octets of a draft holds for equal octets in which suffixes are compared
+-- what holds for the octets of a partial holds for equal octets in which suffixes are compared
 pub names_there : {number : Octets → ℕ} {ms : List Placed} {limit a : ℕ} {b message : Octets}
-    {ks : List Kept} {n : Counts} {d : Draft} → draft_of limit b a ks n ≡ d → message ≡ b
+    {ks : List Kept} {n : Counts} {d : PartialMessage} → partial_of limit b a ks n ≡ d → message ≡ b
     → Holds number ms d.octets (known_places number d)
     → Holds number ms message (asked_places number message a ++ ks)
 names_there {number} {ms} {a = a} {ks = ks} view is holds = grind arith

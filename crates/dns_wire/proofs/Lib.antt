@@ -15,4 +15,4 @@ mod Steps
 mod DataWritten
 mod SharedData
 mod RecordsWritten
-pub mod DraftLemmas
+pub mod PartialLemmas

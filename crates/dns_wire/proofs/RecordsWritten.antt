@@ -1,5 +1,5 @@
 -- Records are written one after another.
-use Rattle.dns_wire.proofs.Common.{◌≡◌, ℕ, ◌+◌, ◌*◌, ◌<◌, ◌≤◌, Bool, true, false, List, [], ◌∷◌, ◌++◌, length, take, drop, get_or, refl, sym, ap, ap₂, ◌∙◌, subst, subst₂, arith, add-zero, map, append_assoc, append-nil, length-append, take-append-drop, length-map, get_or-map, take_more, take_all, Octets, DomainName, ResourceRecord, RecordSet, records_at, laid_parts, Placed, Laid, laid_front, shared_octets, data_laid, record_laid, record_tail, records_octets, records_by, length-record_tail, shown, records_laid, Draft, HasNames, Writes, WritesAfter, IsLaid, IsLaidAs, Form, form_again, ◌==◌, OnTrue, false≢true, ne_eqb, zero, suc}
+use Rattle.dns_wire.proofs.Common.{◌≡◌, ℕ, ◌+◌, ◌*◌, ◌<◌, ◌≤◌, Bool, true, false, List, [], ◌∷◌, ◌++◌, length, take, drop, get_or, refl, sym, ap, ap₂, ◌∙◌, subst, subst₂, arith, add-zero, map, append_assoc, append-nil, length-append, take-append-drop, length-map, get_or-map, take_more, take_all, Octets, DomainName, ResourceRecord, RecordSet, records_at, laid_parts, Placed, Laid, laid_front, shared_octets, data_laid, record_laid, record_tail, records_octets, records_by, length-record_tail, shown, records_laid, PartialMessage, HasNames, Writes, WritesAfter, IsLaid, IsLaidAs, Form, form_again, ◌==◌, OnTrue, false≢true, ne_eqb, zero, suc}
 use Rattle.dns_wire.proofs.LaidAgain.{laid_again}
 use Rattle.dns_wire.proofs.Steps.{writes_as, writes_both, writes_past, both_laid}
 
@@ -109,7 +109,7 @@ owner_first owner ttl set (suc i) ms p some has = go set.rdata refl
         )
 
 -- so the form of the owner is known for the other records of a set
-owner_again : (head : Octets → ℕ) (d : Draft) (owner : DomainName) (ttl : ℕ) (set : RecordSet)
+owner_again : (head : Octets → ℕ) (d : PartialMessage) (owner : DomainName) (ttl : ℕ) (set : RecordSet)
     (i start : ℕ) (form : Form) → i < length set.rdata → start ≡ length d.octets
     → (0 < i → (ms : List Placed) → HasNames d head ms → IsLaid ms owner form)
     → (ms : List Placed) → HasNames d head ms → IsLaidAs owner (i == 0) (form_again start form)
@@ -123,7 +123,7 @@ owner_again head d owner ttl set (suc i) start form inside is known ms holds = �
     (laid_again ms x.0 owner p form holds.before (known (omega arith) ms holds))
 
 -- and the form is known after each record that is written
-pub form_known : {t : Bool} (head head' : Octets → ℕ) (d d' : Draft) (owner : DomainName)
+pub form_known : {t : Bool} (head head' : Octets → ℕ) (d d' : PartialMessage) (owner : DomainName)
     (form form' : Form) (i : ℕ) → (i ≡ 0 → d' ≡ d) → head' ≡ head
     → (0 < i → (ms : List Placed) → HasNames d head ms → IsLaid ms owner form)
     → ((i == 0) ≡ true → OnTrue t ((ms : List Placed) → HasNames d' head' ms → IsLaid ms owner form'))
@@ -136,7 +136,7 @@ form_known head head' d d' owner form form' (suc i) begins same known first othe
     subst (IsLaid ms owner) (sym (others (ne_eqb (suc i) 0 (λ e. omega (arith, e))))) (known (omega arith) ms holds)
 
 -- one more record of a set is written, or does not fit
-pub record_more : {head head' head'' : Octets → ℕ} {d d' d'' : Draft} {fits : Bool}
+pub record_more : {head head' head'' : Octets → ℕ} {d d' d'' : PartialMessage} {fits : Bool}
     (owner : DomainName) (ttl : ℕ) (set : RecordSet) (i start : ℕ) (form : Form)
     (given : ResourceRecord) → i < length set.rdata
     → given ≡ shown owner set.rtype ttl (get_or set.rdata i []) → start ≡ length d.octets
@@ -158,7 +158,7 @@ record_more {head} {head'} {head''} {d} {d'} {d''} {fits}
     so_far (writes_as (λ ms p. record_laid ms p given) last (record_alone given) next)))
 
 -- if the first i records do not fit, the records do not
-pub records_past : {head head' : Octets → ℕ} {d d' : Draft} {t : Bool} (rs : List ResourceRecord)
+pub records_past : {head head' : Octets → ℕ} {d d' : PartialMessage} {t : Bool} (rs : List ResourceRecord)
     (i : ℕ) → t ≡ false → Writes head head' d d' (records_laid (take i rs)) t
     → Writes head head' d d' (records_laid rs) false
 records_past rs i is w = writes_past (records_laid (take i rs)) (records_laid rs) is refl

@@ -1,6 +1,6 @@
 -- What is at a place in a run of labels determines how the run continues.
 use Rattle.dns_spec.specs.MessageFaults.{RunFault, NameFault, step_fault, stopped, too_long, labelled, pointed}
-use Rattle.dns_wire.specs.declared.fault.WireFault.{WireFault}
+use Rattle.dns_wire.specs.declared.wire_fault.WireFault.{WireFault}
 use Rattle.dns_wire.specs.WireFault.{fault_code}
 use Rattle.dns_wire.proofs.Common.{pointer_place, ◌≡◌, ℕ, ◌+◌, ◌<◌, ◌≤◌, true, IfSome, [], ◌∷◌, ◌++◌, length, take, drop, get_or, slice_get, Option, Some, refl, sym, ap, ◌∙◌, subst, arith, false, append_assoc, append-nil, length-append, same_Some, slice_get_within, slice_get-get_or, Octets, DomainName, wire, is_name, RunAt, NameAt, ends, goes_on, jumps, length-take-le, length-drop, LabelAt, PointerAt, NoRunAt, name_at, name_at_computes, name_computed, None}
 use Rattle.std.specs.Option.{unwrap_or}

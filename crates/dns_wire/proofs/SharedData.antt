@@ -1,7 +1,7 @@
 -- The parts of data whose names are compressed: one name, a number and a name, or two names and
 -- five numbers.
-use Rattle.dns_wire.proofs.Common.{◌≡◌, suc-mul, ◌*◌, ℕ, ◌-◌, ◌≤◌, true, List, [], ◌∷◌, ◌++◌, length, take, drop, Option, None, Some, refl, sym, ap, ap₂, ◌∙◌, subst, arith, append-nil, length-append, take_at, drop_at, false≢true, and_parts, none-some, same_Some, Bor, Octets, DomainName, wire, is_name, length-take, length-drop, Field, domain, type_mx, type_soa, Part, octets, name, field_front, cut, fields_of, parts, laid_parts, compresses, valid, cut_into, name_part, octets_part, front_taken, labels_of, IsWireForm, Cuts, IsLent, part_for, Name, number, zero, suc, replicate}
-use Rattle.dns_rdata.specs.declared.parts.Part as Lent
+use Rattle.dns_wire.proofs.Common.{◌≡◌, suc-mul, ◌*◌, ℕ, ◌-◌, ◌≤◌, true, List, [], ◌∷◌, ◌++◌, length, take, drop, Option, None, Some, refl, sym, ap, ap₂, ◌∙◌, subst, arith, append-nil, length-append, take_at, drop_at, false≢true, and_parts, none-some, same_Some, Bor, Octets, DomainName, wire, is_name, length-take, length-drop, Field, domain, type_mx, type_soa, Part, octets, name, field_front, cut, fields_of, parts, laid_parts, compresses, valid, cut_into, name_part, octets_part, front_taken, labels_of, IsWireForm, Cuts, IsBorrowed, part_for, Name, number, zero, suc, replicate}
+use Rattle.dns_rdata.specs.declared.parts.Part as Borrowed
 use Rattle.dns_wire.proofs.DataWritten.{runs}
 use Rattle.dns_wire.proofs.ValidData.{by_row}
 
@@ -70,7 +70,7 @@ server_some t d soa ok e = let c =
 
 -- the parts of the data of an SOA, which is cut into its first name and what follows it
 pub record AuthorityLaid (server rest : Octets) (ps : List Part) : Type 0 where
-  pub lent : IsWireForm server
+  pub borrowed : IsWireForm server
   pub mailbox : DomainName
   pub is_name : is_name mailbox ≡ true
   pub inside : 20 ≤ length rest
@@ -79,16 +79,16 @@ pub record AuthorityLaid (server rest : Octets) (ps : List Part) : Type 0 where
   pub parts : ps
       ≡ name (labels_of server) ∷ name mailbox ∷ runs 4 5 (drop (length rest - 20) rest)
 
-pub authority_laid : {r : Option (Lent.Part × Bor Octets)}
-    {part : Lent.Part} {rest server : Bor Octets} (t : ℕ) (d : Octets)
+pub authority_laid : {r : Option (Borrowed.Part × Bor Octets)}
+    {part : Borrowed.Part} {rest server : Bor Octets} (t : ℕ) (d : Octets)
     → t ≡ type_soa → valid t d ≡ true → r ≡ Some (part, rest) → part ≡ Name server
     → Cuts r (field_front domain d) → AuthorityLaid server.now rest.now (laid_parts t d)
 authority_laid {r} {part} {rest} {server} t d soa ok some named cuts =
     let five = replicate 5 (number 4) in
-    let lent = subst (λ x. Cuts x (field_front domain d)) some cuts in
+    let borrowed = subst (λ x. Cuts x (field_front domain d)) some cuts in
     let c = cut_into domain (domain ∷ five) d (laid_parts t d) (authority_cut t d soa ok) in
     let same = same_Some _ _ (sym c.front
-    ∙ subst (λ x. field_front domain d ≡ Some (part_for x, rest.now)) named lent.0) in
+    ∙ subst (λ x. field_front domain d ≡ Some (part_for x, rest.now)) named borrowed.0) in
     let after : c.rest ≡ rest.now = ap (λ (x : Part × Octets). x.1) same in
     let (m, tail, others, ok_m, whole, parts, more) =
     first_name five rest.now c.others (ap (cut (domain ∷ five)) (sym after) ∙ c.more) in
@@ -98,7 +98,7 @@ authority_laid {r} {part} {rest} {server} t d soa ok some named cuts =
     let back : drop (length rest.now - 20) rest.now ≡ tail =
     ap₂ drop place whole ∙ drop_at (wire m) tail (length (wire m)) refl in
     record {
-      lent = subst IsLent named lent.1;
+      borrowed = subst IsBorrowed named borrowed.1;
       mailbox = m;
       is_name = ok_m;
       inside = omega (arith, ap length whole, length-append (wire m) tail, long);

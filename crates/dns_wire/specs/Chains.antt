@@ -1,7 +1,7 @@
 -- How the kept places are linked into chains, so that the places of one chain are found without
 -- looking at those of other chains.
 use Rattle.std.specs.Prelude.{◌≡◌, ℕ, zero, suc, ◌<◌, ◌/◌, ◌%◌, List, length, get_or, ◌==◌, if◌then◌else◌}
-use Rattle.dns_wire.specs.declared.places.KeptPlace.{KeptPlace}
+use Rattle.dns_wire.specs.declared.suffix_offsets.KeptPlace.{KeptPlace}
 use Rattle.dns_wire.specs.Kept.{Kept}
 
 abbrev pub kept_in : KeptPlace → Kept

@@ -6,6 +6,6 @@ pub mod QueryForm
 pub mod Kept
 pub mod Chains
 pub mod Writing
-pub mod Draft
+pub mod PartialMessage
 pub mod QuickNumbers
 pub mod SuffixNumbers

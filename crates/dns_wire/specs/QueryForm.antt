@@ -7,7 +7,7 @@ use Rattle.dns_spec.specs.Reading as reading
 use Rattle.dns_wire.specs.declared.query.QueryRead.{QueryRead}
 use Rattle.dns_wire.specs.declared.query.QueryRead.TheVariants.{Absent, Refused, Query}
 use Rattle.dns_wire.specs.declared.query.QueryRef.{QueryRef}
-use Rattle.dns_wire.specs.declared.query.QueryRef.TheVariants as lent
+use Rattle.dns_wire.specs.declared.query.QueryRef.TheVariants as borrowed
 use Rattle.dns_wire.specs.declared.query.Rcode.{Rcode}
 use Rattle.dns_wire.specs.declared.query.Rcode.TheVariants as rcodes
 
@@ -16,10 +16,10 @@ as_read Absent = spec.absent
 as_read (Refused head) = spec.refused_with head
 as_read (Query head question) = spec.query head question
 
-abbrev pub as_lent : QueryRef → spec.QueryRead
-as_lent lent.Absent = spec.absent
-as_lent (lent.Refused head) = spec.refused_with head
-as_lent (lent.Query head question) = spec.query head question
+abbrev pub as_borrowed : QueryRef → spec.QueryRead
+as_borrowed borrowed.Absent = spec.absent
+as_borrowed (borrowed.Refused head) = spec.refused_with head
+as_borrowed (borrowed.Query head question) = spec.query head question
 
 -- the name after the header ends at this place
 pub record NameEnds (d : Octets) (end : ℕ) : Type 0 where

@@ -1,7 +1,7 @@
 -- The numbers of the faults of messages.
 use Rattle.std.specs.Prelude.{ℕ, ◌≢◌}
-use Rattle.dns_wire.specs.declared.fault.WireFault.{WireFault}
-use Rattle.dns_wire.specs.declared.fault.WireFault.TheVariants.{Short, ReservedLabel, BadPointer, LongName, BadData, Trailing, NoMemory}
+use Rattle.dns_wire.specs.declared.wire_fault.WireFault.{WireFault}
+use Rattle.dns_wire.specs.declared.wire_fault.WireFault.TheVariants.{Short, ReservedLabel, BadPointer, LongName, BadData, Trailing, NoMemory}
 
 abbrev pub fault_code : WireFault → ℕ
 fault_code fault =

@@ -7,9 +7,9 @@ ghost use Rattle.dns_wire.specs.FieldReads.{IsFieldRead};
 ghost use Rattle.dns_wire.specs.Read.{IsWireData};
 ghost use Rattle.dns_wire.specs.WireFault.{UnlessNoMemory, fault_code};
 
-use crate::fault::WireFault;
 use crate::message::CLASS_IN;
 use crate::name::read_name;
+use crate::wire_fault::WireFault;
 use dns_rdata::{Field, Part, RType, fields_of_type, first_part};
 use std::alloc::Global;
 

@@ -62,11 +62,11 @@ impl Model for Question {
 
 impl Question {
     /// The question, borrowed.
-    pub fn lent(&self) -> QuestionRef<'_>
+    pub fn borrowed(&self) -> QuestionRef<'_>
         ensures { result ≡ self.now }
     {
         QuestionRef {
-            name: self.name.lent(),
+            name: self.name.borrowed(),
             qtype: self.qtype,
             qclass: self.qclass,
         }

@@ -5,8 +5,8 @@ ghost use Rattle.dns_spec.specs.MessageFaults.{NameFault, step_fault, pointer_fa
 ghost use Rattle.dns_wire.specs.Labels.{StepAt, PointerAt, NoRunAt};
 ghost use Rattle.dns_wire.specs.WireFault.{fault_code};
 
-use crate::fault::WireFault;
 use crate::message::HEADER_OCTETS;
+use crate::wire_fault::WireFault;
 use dns_name::{Label, Name};
 
 // What is at a place in a name.

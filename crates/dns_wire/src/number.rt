@@ -3,7 +3,7 @@ ghost use Rattle.std.specs.Prelude.{◌≡◌, ◌+◌, ◌<◌, ◌≤◌, ◌�
 ghost use Rattle.dns_spec.specs.Reading.{field16, field32};
 ghost use Rattle.dns_wire.specs.WireFault.{fault_code};
 
-use crate::fault::WireFault;
+use crate::wire_fault::WireFault;
 
 /// The 16 bits at place `at`. Fails with `Short` if the message ends before two octets are read.
 pub(crate) fn read_u16(message: &[u8], at: usize) -> Result<u16, WireFault>

@@ -3,7 +3,7 @@ ghost use Rattle.std.specs.Prelude.{◌≡◌, ◌+◌, ◌≤◌, length, IfSom
 ghost use Rattle.dns_spec.specs.ComputedNames.{name_at};
 ghost use Rattle.dns_spec.specs.Reading.{field16};
 ghost use Rattle.dns_spec.specs.Query.{reply_head, question_at, query_read};
-ghost use Rattle.dns_wire.specs.QueryForm.{as_lent, as_read, code_of, NameEnds};
+ghost use Rattle.dns_wire.specs.QueryForm.{as_borrowed, as_read, code_of, NameEnds};
 
 use crate::message::{HEADER_OCTETS, Head, Question, QuestionRef};
 use byteorder::{BigEndian, ByteOrder};
@@ -92,7 +92,7 @@ impl Head {
 pub fn read_query(datagram: &[u8]) -> QueryRead
     ensures { as_read result ≡ query_read datagram.now }
 {
-    match lent_query(datagram) {
+    match query_ref(datagram) {
         QueryRef::Absent => QueryRead::Absent,
         QueryRef::Refused(head) => QueryRead::Refused(head),
         QueryRef::Query(head, question) => QueryRead::Query(head, question.to_question()),
@@ -104,8 +104,8 @@ pub fn read_query(datagram: &[u8]) -> QueryRead
 /// so no name is copied.
 #[tactic(auto, unfolding(dns_spec::specs::Query::query_read))]
 #[inline(always)]
-pub fn lent_query(datagram: &[u8]) -> QueryRef<'_>
-    ensures { as_lent result ≡ query_read datagram.now }
+pub fn query_ref(datagram: &[u8]) -> QueryRef<'_>
+    ensures { as_borrowed result ≡ query_read datagram.now }
 {
     if datagram.len() < HEADER_OCTETS || field(datagram, 2) / 0x8000 >= 1 {
         return QueryRef::Absent;
@@ -124,7 +124,7 @@ pub fn lent_query(datagram: &[u8]) -> QueryRef<'_>
     {
         return QueryRef::Refused(head.reply(false, false, Rcode::FormatError));
     }
-    match lent_question(datagram) {
+    match question_ref(datagram) {
         None => QueryRef::Refused(head.reply(false, false, Rcode::FormatError)),
         Some(question) => QueryRef::Query(head, question),
     }
@@ -141,7 +141,7 @@ fn field(datagram: &[u8], at: usize) -> u16
 // The question, if the octets after the header are exactly one question.
 #[tactic(auto, unfolding(dns_spec::specs::Query::question_at))]
 #[inline(always)]
-fn lent_question(datagram: &[u8]) -> Option<QuestionRef<'_>>
+fn question_ref(datagram: &[u8]) -> Option<QuestionRef<'_>>
     ensures { result ≡ question_at datagram.now }
 {
     let end = name_end(datagram)?;

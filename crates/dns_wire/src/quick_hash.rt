@@ -1,5 +1,5 @@
 //! A hash of suffixes that reads few of their octets.
-use crate::places::SuffixHash;
+use crate::suffix_offsets::SuffixHash;
 
 // 2^32 divided by the golden ratio.
 const SPREAD: u32 = 2_654_435_769;

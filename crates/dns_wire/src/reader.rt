@@ -6,10 +6,10 @@ ghost use Rattle.dns_wire.specs.Read.{HeaderAt};
 ghost use Rattle.dns_wire.specs.WireFault.{UnlessNoMemory, fault_code};
 
 use crate::data::read_data;
-use crate::fault::WireFault;
 use crate::message::{Counts, HEADER_OCTETS, Head, Message, Question, WireRecord};
 use crate::name::read_name;
 use crate::number::{read_u16, read_u32};
+use crate::wire_fault::WireFault;
 use dns_rdata::RType;
 use std::alloc::Global;
 

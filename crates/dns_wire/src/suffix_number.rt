@@ -3,7 +3,7 @@ ghost use Rattle.std.specs.Prelude.{◌≡◌, ◌<◌, ◌≤◌, ◌^◌, leng
 ghost use Rattle.std.specs.Int.{from_le_bytes, w64};
 ghost use Rattle.dns_wire.specs.SuffixNumbers.{suffix_number, octets_number, mixed};
 
-use crate::places::SuffixHash;
+use crate::suffix_offsets::SuffixHash;
 
 // 2^64 divided by the golden ratio.
 const SPREAD: u64 = 11_400_714_819_323_198_485;

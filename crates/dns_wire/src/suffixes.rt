@@ -8,19 +8,19 @@ ghost use Rattle.dns_wire.specs.Kept.{IsSharedAt, NoneSpelled};
 ghost use Rattle.dns_wire.specs.SuffixNumbers.{suffix_number};
 
 use crate::message::HEADER_OCTETS;
-use crate::places::{Places, SuffixHash};
 use crate::suffix_number::number_of;
+use crate::suffix_offsets::{SuffixHash, SuffixOffsets};
 use dns_name::ends_with;
 
 // The last place that the 14 bits of a pointer reach.
-pub(crate) const LAST_PLACE: usize = 16383;
+pub(crate) const LAST_OFFSET: usize = 16383;
 
 /// How a name, given in its wire form, is laid out in `room` octets: the number of octets before
 /// the longest suffix that a pointer may replace, and the place of that suffix; or the number of
 /// octets before the root, and no place. Suffixes are tried from the longest. `None` if the labels
 /// before a suffix leave no room for two more octets: then the name does not fit.
 pub(crate) fn shared_suffix<H: SuffixHash, const N: usize>(
-    places: &Places<N>,
+    places: &SuffixOffsets<N>,
     message: &[u8],
     hash: &mut H,
     name: &[u8],
@@ -59,7 +59,7 @@ pub(crate) fn shared_suffix<H: SuffixHash, const N: usize>(
 // A place at which the message spells a suffix: in the question's name, or else one of `places`. If
 // `places` is empty, nothing is hashed.
 fn find_suffix<H: SuffixHash, const N: usize>(
-    places: &Places<N>,
+    places: &SuffixOffsets<N>,
     message: &[u8],
     hash: &mut H,
     suffix: &[u8],
@@ -74,7 +74,7 @@ fn find_suffix<H: SuffixHash, const N: usize>(
         (suffix_number (H.numbers hash.old) suffix.now) message.now suffix.now }
     ensures same { H.numbers hash.new ≡ H.numbers hash.old }
 {
-    if let Some(place) = place_before(message, asked_end, suffix) {
+    if let Some(place) = offset_before(message, asked_end, suffix) {
         return Some(place);
     }
     if places.len() == 0 {
@@ -88,7 +88,7 @@ fn find_suffix<H: SuffixHash, const N: usize>(
 // if the name does not end with `suffix`. Such places need not be kept, since the distance of each
 // from `end` is the suffix's length. Inlining saves up to 5 % of the work for a reply.
 #[inline(always)]
-pub(crate) fn place_before(message: &[u8], end: usize, suffix: &[u8]) -> Option<u16>
+pub(crate) fn offset_before(message: &[u8], end: usize, suffix: &[u8]) -> Option<u16>
     requires { IsAsked message.now end }
     ensures found { (head : Octets → ℕ) → IfSome result (λ place. IsSharedAt
         (asked_places head message.now end) message.now suffix.now place) }
@@ -131,7 +131,7 @@ fn has_last_labels(name: &[u8], suffix: &[u8]) -> bool
 /// Adds to `places` the places of a name's suffixes. The name is laid out at place `at`. Only
 /// suffixes count that begin in its first `front` octets and within the reach of a pointer.
 pub(crate) fn keep_suffixes<H: SuffixHash, const N: usize>(
-    places: &mut Places<N>,
+    places: &mut SuffixOffsets<N>,
     hash: &mut H,
     name: &[u8],
     front: usize,
@@ -156,7 +156,7 @@ pub(crate) fn keep_suffixes<H: SuffixHash, const N: usize>(
             return;
         };
         let next = place + 1 + length;
-        if next > at + front || place > LAST_PLACE {
+        if next > at + front || place > LAST_OFFSET {
             return;
         }
         places.insert(place as u16, number_of(hash, rest));

@@ -8,20 +8,20 @@ ghost use Rattle.dns_spec.specs.Layout.{Item, layout, message_of, records_of};
 ghost use Rattle.dns_spec.specs.LayoutSize.{size};
 ghost use Rattle.dns_spec.specs.Laws.{sections_in_order, IsWritable};
 ghost use Rattle.dns_spec.specs.Sharing.{Sharing};
-ghost use Rattle.dns_wire.specs.Draft.{IsDraft, with_set};
+ghost use Rattle.dns_wire.specs.PartialMessage.{IsPartial, with_set};
 
 use crate::message::{Head, Question};
-use crate::page::{Page, Section};
-use crate::places::SuffixHash;
+use crate::message_builder::{MessageBuilder, Section};
+use crate::suffix_offsets::SuffixHash;
 use dns_name::Name;
 use dns_rdata::SetView;
 
-/// A message being written: a page of the greatest size, and the borrowed hash by which suffixes
+/// A message being written: a builder of the greatest size, and the borrowed hash by which suffixes
 /// are found.
 #[derive(Drop)]
 pub struct Writer<'h, H: SuffixHash> {
     hash: &'h mut H,
-    page: Page<8192, 65535>,
+    builder: MessageBuilder<8192, 65535>,
 }
 
 impl<'h, H: SuffixHash> Writer<'h, H> {
@@ -30,38 +30,38 @@ impl<'h, H: SuffixHash> Writer<'h, H> {
     pub fn new(limit: usize, question: Option<&Question>, hash: &'h mut H) -> Writer<'h, H>
         requires from { 512 ≤ limit }
         requires upto { limit ≤ 65535 }
-        ensures draft { IsDraft (H.numbers result.hash.now)
-            (option_copied question.entry) [] result.page }
-        ensures limit { result.page.limit ≡ limit }
+        ensures partial { IsPartial (H.numbers result.hash.now)
+            (option_copied question.entry) [] result.builder }
+        ensures limit { result.builder.limit ≡ limit }
     {
-        let mut page = Page::new(limit);
+        let mut builder = MessageBuilder::new(limit);
         if let Some(question) = question {
-            page.put_question(&question.lent());
+            builder.put_question(&question.borrowed());
         }
-        Writer { hash, page }
+        Writer { hash, builder }
     }
 
     /// Writes all records of a set into a section, with an owner and a TTL in seconds. If they
     /// would make the message exceed its limit, writes none of them and returns false.
     pub fn put_set<S: SetView>(&mut self, section: Section, owner: &Name, ttl: u32, set: &S) -> bool
         ensures fits { (q : Option MessageQuestion) (items : List Item)
-            → IsDraft (H.numbers self.old.hash.now) q items self.old.page → IsTrue result
+            → IsPartial (H.numbers self.old.hash.now) q items self.old.builder → IsTrue result
             ↔ (size q (with_set items section owner.now ttl (S.set set.now))
-            ≤ self.old.page.limit) }
+            ≤ self.old.builder.limit) }
         ensures put { (q : Option MessageQuestion) (items : List Item)
-            → IsDraft (H.numbers self.old.hash.now) q items self.old.page
-            → OnTrue result (IsDraft (H.numbers self.new.hash.now) q
-            (with_set items section owner.now ttl (S.set set.now)) self.new.page) }
+            → IsPartial (H.numbers self.old.hash.now) q items self.old.builder
+            → OnTrue result (IsPartial (H.numbers self.new.hash.now) q
+            (with_set items section owner.now ttl (S.set set.now)) self.new.builder) }
         ensures least { (q : Option MessageQuestion) (items : List Item)
-            → IsDraft (H.numbers self.old.hash.now) q items self.old.page
-            → self.old.page.limit ≤ 16384 → IsFalse result ↔ ((z : ℕ) → Sharing q
-            (with_set items section owner.now ttl (S.set set.now)) z → self.old.page.limit < z) }
-        ensures unchanged { OnFalse result (self.new.page ≡ self.old.page) }
-        ensures limit { self.new.page.limit ≡ self.old.page.limit }
+            → IsPartial (H.numbers self.old.hash.now) q items self.old.builder
+            → self.old.builder.limit ≤ 16384 → IsFalse result ↔ ((z : ℕ) → Sharing q
+            (with_set items section owner.now ttl (S.set set.now)) z → self.old.builder.limit < z) }
+        ensures unchanged { OnFalse result (self.new.builder ≡ self.old.builder) }
+        ensures limit { self.new.builder.limit ≡ self.old.builder.limit }
         ensures same { H.numbers self.new.hash.now ≡ H.numbers self.old.hash.now }
     {
-        self.page
-            .put_set(self.hash, section, &owner.lent(), ttl, set)
+        self.builder
+            .put_set(self.hash, section, &owner.borrowed(), ttl, set)
     }
 
     /// Copies the message, with its header and counts, to the front of `out` and returns its
@@ -69,19 +69,19 @@ impl<'h, H: SuffixHash> Writer<'h, H> {
     ///
     /// Condition: `out` is at least as long as the message's limit.
     pub fn finish(self, head: Head, out: &mut [u8]) -> usize
-        requires { self.page.limit ≤ length out.old }
+        requires { self.builder.limit ≤ length out.old }
         ensures length { (h : Octets → ℕ) (q : Option MessageQuestion) (items : List Item)
-            → IsDraft h q items self.entry.page → result ≡ size q items }
+            → IsPartial h q items self.entry.builder → result ≡ size q items }
         ensures layout { (h : Octets → ℕ) (q : Option MessageQuestion) (items : List Item)
-            → IsDraft h q items self.entry.page → take result out.new ≡ layout head q items }
+            → IsPartial h q items self.entry.builder → take result out.new ≡ layout head q items }
         ensures spelled { (h : Octets → ℕ) (q : Option MessageQuestion) (items : List Item)
-            → IsDraft h q items self.entry.page → IsTrue (sections_in_order items)
+            → IsPartial h q items self.entry.builder → IsTrue (sections_in_order items)
             → All IsWritable (records_of items)
             → Spells (take result out.new) (message_of head q items) }
     {
-        let mut page = self.page;
-        page.finish(head);
-        let message = page.octets();
+        let mut builder = self.builder;
+        builder.finish(head);
+        let message = builder.octets();
         let (front, _) = out.split_at_mut(message.len());
         front.copy_from_slice(message);
         message.len()

@@ -7,7 +7,7 @@ below a b c h k = omega arith
 -- the origin in lower case, the records in canonical order, and their faults
 module _ (o n : DomainName) (rs xs ys : List ResourceRecord) (fs : List Fault)
     (low : n ≡ folded o) (canonical : xs ≡ sort_by record_order (distinct records_equal rs))
-    (lent : ys ≡ xs)
+    (borrowed : ys ≡ xs)
     (faults_are : fs ≡ faults (record { origin = n; records = ys })) where
   found : fs ≡ faults (record { origin = n; records = xs })
   found = grind (arith, faults)

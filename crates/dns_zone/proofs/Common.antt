@@ -34,25 +34,25 @@ pub use Rattle.dns_spec.specs.Tree.{closest_encloser, without_first}
 pub use Rattle.dns_zone.specs.EntryForm.{IsEntry, data_in, owner_in}
 pub use Rattle.dns_zone.specs.KeyForm.{BeginsAs, ended, name_key, raised}
 pub use Rattle.dns_zone.specs.OwnerKeysForm.{AreKeyed, key_in}
-pub use Rattle.dns_zone.specs.PlaceForm.{AreApart, AreFronts, ArePlaces, AreSorted, IsPlace, no_record, own_order, place_key, place_order, placed}
+pub use Rattle.dns_zone.specs.SortKeyForm.{AreApart, AreFronts, ArePlaces, AreSorted, IsPlace, no_record, own_order, place_key, place_order, placed}
 pub use Rattle.dns_zone.specs.LabelKey.{IsEight, IsKey}
 unfoldable pub use Rattle.dns_zone.specs.LabelKey.{key_of}
 pub use Rattle.dns_zone.specs.NameEnd.{ending}
-pub use Rattle.dns_zone.specs.NamesForm.{AreChecked, AreOwners, ComesNext, IsChecked, IsCutAbove, IsLastUpto, IsSurvey, IsTopmost, first_owner, is_covered, is_upto, owner_of, own_in}
-pub use Rattle.dns_zone.specs.NodeForm.{IsZoneNode, IsZoneTree, kid_label, kid_rows, node_at}
+pub use Rattle.dns_zone.specs.NamesForm.{AreChecked, AreOwners, ComesNext, IsChecked, IsCutAbove, IsLastUpto, IsCheckContext, IsTopmost, first_owner, is_covered, is_upto, owner_of, own_in}
+pub use Rattle.dns_zone.specs.NodeForm.{IsZoneNode, IsZoneTree, child_label, child_rows, node_at}
 pub use Rattle.dns_zone.specs.Nodes.{IsNode, IsSetOf, Walk, ZoneNode}
 pub use Rattle.dns_zone.specs.OwnerForm.{IsOwner, NameOfZone, is_exchange_alias, is_exchange_type, is_other_type, is_plain_type, is_server_alias, is_server_lost, number_of}
 pub use Rattle.dns_zone.specs.ReportedForm.{begins_with_owner, failed_from, owners_once}
 unfoldable pub use Rattle.dns_zone.specs.ReportedForm.{reported_at}
-pub use Rattle.dns_zone.specs.SetForm.{AreOfType, data_of, lent}
+pub use Rattle.dns_zone.specs.SetForm.{AreOfType, data_of, borrowed}
 pub use Rattle.dns_zone.specs.SetWalks.{begins_with_type, sets_ended}
 pub use Rattle.dns_zone.specs.Starts.{AreStarts, BeginsAt}
-pub use Rattle.dns_zone.specs.TreeForm.{AreKids, IsKid, IsRow, IsTree, first_of, kids_at, no_row, owners, row_at, row_label, span, under}
+pub use Rattle.dns_zone.specs.TreeForm.{AreChildren, IsChild, IsRow, IsTree, first_of, children_at, no_row, owners, row_at, row_label, span, under}
 unfoldable pub use Rattle.dns_zone.specs.TreeForm.{row_name, row_octets}
-pub use Rattle.dns_zone.specs.TreeSteps.{AddsKids}
+pub use Rattle.dns_zone.specs.TreeSteps.{AddsChildren}
 pub use Rattle.dns_zone.specs.ZoneForm.{AreOrdered, IsBuilt, IsCanonical, IsFront, is_chosen}
 pub use Rattle.dns_zone.specs.declared.names.CheckedName.{CheckedName}
-pub use Rattle.dns_zone.specs.declared.order.place.Place.{Place}
+pub use Rattle.dns_zone.specs.declared.order.sort_key.SortKey.{SortKey}
 pub use Rattle.dns_zone.specs.declared.tree.lower_case.TheConstants.{LOWER_CASE}
 pub use Rattle.dns_zone.specs.declared.tree.row.Row.{Row}
 pub use Rattle.dns_zone.specs.declared.tree.zone_tree.Tree.{Tree}

@@ -1,15 +1,15 @@
 -- Moving records to the places that they have in a list of places.
-use Rattle.dns_zone.proofs.Common.{◌≡◌, ℕ, ◌+◌, ◌<◌, ◌≤◌, ◌⊎◌, inl, inr, List, length, take, map, set, get_or, sym, ap, ◌∙◌, arith, length-map, length-take, length-set, get_or-map, get_or-take, get_or-set_same, get_or-set_other, get_or_default, cases_order, min-eq_left, subst, SwappedAt, ResourceRecord, AreApart, no_record, placed, Place}
+use Rattle.dns_zone.proofs.Common.{◌≡◌, ℕ, ◌+◌, ◌<◌, ◌≤◌, ◌⊎◌, inl, inr, List, length, take, map, set, get_or, sym, ap, ◌∙◌, arith, length-map, length-take, length-set, get_or-map, get_or-take, get_or-set_same, get_or-set_other, get_or_default, cases_order, min-eq_left, subst, SwappedAt, ResourceRecord, AreApart, no_record, placed, SortKey}
 use Rattle.std.proofs.lemmas.List.{ext_get_or}
 
 -- stands for a place that does not exist
-abbrev pub no_place : Place
+abbrev pub no_place : SortKey
 no_place = record { front = 0; next = 0; at = 0; start = 0 }
 
 -- The records `now` are the records `old`, moved: `record_at` has the old index of the record at
 -- each index, and `index_of` the index of each old record. The first `to` places are filled.
 pub record IsGathered (old now : List ResourceRecord) (index_of record_at : List ℕ)
-    (ps : List Place) (to : ℕ) : Type 0 where
+    (ps : List SortKey) (to : ℕ) : Type 0 where
   pub size : length now ≡ length old
   pub indexes : length index_of ≡ length old
   pub records : length record_at ≡ length old
@@ -18,15 +18,15 @@ pub record IsGathered (old now : List ResourceRecord) (index_of record_at : List
   pub below : (k : ℕ) → k < length old → get_or record_at k 0 < length old
   pub from : (k : ℕ) (r : ResourceRecord) → k < length old
       → get_or now k r ≡ get_or old (get_or record_at k 0) r
-  pub done : (k : ℕ) (d : Place) → k < to → get_or record_at k 0 ≡ (get_or ps k d).at
+  pub done : (k : ℕ) (d : SortKey) → k < to → get_or record_at k 0 ≡ (get_or ps k d).at
 
 either : (a b : ℕ) → (a ≡ b) ⊎ (a ≡ b → ⊥)
 either a b = grind (arith, inl, inr, cases_order)
 
-module _ (old now next : List ResourceRecord) (index_of record_at : List ℕ) (ps : List Place)
+module _ (old now next : List ResourceRecord) (index_of record_at : List ℕ) (ps : List SortKey)
     (to : ℕ) (h : IsGathered old now index_of record_at ps to) (apart : AreApart ps)
     (inside : to < length ps) (fewer : length ps ≤ length old)
-    (place : Place) (is : place ≡ get_or ps to place) (at : place.at < length old) where
+    (place : SortKey) (is : place ≡ get_or ps to place) (at : place.at < length old) where
   abbrev j : ℕ
   j = place.at
 
@@ -118,19 +118,19 @@ module _ (old now next : List ResourceRecord) (index_of record_at : List ℕ) (p
           let same = record_other k n m in
           grind (arith, (stays), (there), (same), (h.below k l))
 
-  done' : (k : ℕ) (d : Place) → k < to + 1 → get_or record_at' k 0 ≡ (get_or ps k d).at
+  done' : (k : ℕ) (d : SortKey) → k < to + 1 → get_or record_at' k 0 ≡ (get_or ps k d).at
   done' k d l = go (either k to)
     where
       go : (k ≡ to) ⊎ (k ≡ to → ⊥) → get_or record_at' k 0 ≡ (get_or ps k d).at
       go (inl e) =
           ap (λ i. get_or record_at' i 0) e ∙ record_to
-          ∙ ap (λ (q : Place). q.at) (is ∙ sym (get_or_default ps to d place inside))
+          ∙ ap (λ (q : SortKey). q.at) (is ∙ sym (get_or_default ps to d place inside))
           ∙ ap (λ i. (get_or ps i d).at) (sym e)
       go (inr n) =
           let done = h.done k d (omega (arith, l, n)) in
           record_other k n (λ f. n (apart k to d (omega (arith, l, n, inside)) inside
           (sym done ∙ ap (λ i. get_or record_at i 0) f ∙ p_has
-          ∙ ap (λ (q : Place). q.at) (is ∙ sym (get_or_default ps to d place inside))))) ∙ done
+          ∙ ap (λ (q : SortKey). q.at) (is ∙ sym (get_or_default ps to d place inside))))) ∙ done
 
   one_more : SwappedAt now next to p → length next ≡ length now
       → IsGathered old next index_of' record_at' ps (to + 1)
@@ -151,7 +151,7 @@ module _ (old now next : List ResourceRecord) (index_of record_at : List ℕ) (p
   one_step from other e f s size = rw (e, f) (one_more (subst (SwappedAt now next to) e s) size)
 
 -- at the end, the first records are those at the places
-pub all_gathered : (old now : List ResourceRecord) (index_of record_at : List ℕ) (ps : List Place)
+pub all_gathered : (old now : List ResourceRecord) (index_of record_at : List ℕ) (ps : List SortKey)
     → IsGathered old now index_of record_at ps (length ps) → length ps ≤ length old
     → take (length ps) now ≡ map (placed old no_record) ps
 all_gathered old now index_of record_at ps h fewer =

@@ -1,7 +1,7 @@
 -- Adding the rows of a zone, level by level.
-use Rattle.dns_zone.proofs.Common.{◌≡◌, ℕ, ◌+◌, ◌-◌, ◌<◌, ◌≤◌, ◌⊎◌, inl, inr, List, [], ◌∷◌, ◌++◌, length, drop, get_or, sym, ap, ◌∙◌, arith, subst, length-append, length-drop, cases_lt, take-append-drop, get_or-take, get_or-drop, get_or_append_left, get_or_push, take_all, DomainName, ResourceRecord, no_row, row_name, row_at, kids_at, IsRow, IsKid, AreKids, IsTree, AddsKids, Row}
+use Rattle.dns_zone.proofs.Common.{◌≡◌, ℕ, ◌+◌, ◌-◌, ◌<◌, ◌≤◌, ◌⊎◌, inl, inr, List, [], ◌∷◌, ◌++◌, length, drop, get_or, sym, ap, ◌∙◌, arith, subst, length-append, length-drop, cases_lt, take-append-drop, get_or-take, get_or-drop, get_or_append_left, get_or_push, take_all, DomainName, ResourceRecord, no_row, row_name, row_at, children_at, IsRow, IsChild, AreChildren, IsTree, AddsChildren, Row}
 use Rattle.dns_zone.proofs.Spans.{span_front}
-use Rattle.dns_zone.proofs.GrowingKids.{row_is}
+use Rattle.dns_zone.proofs.GrowingChildren.{row_is}
 use Rattle.dns_spec.proofs.General.Elements.{each_get}
 
 -- the children of the rows before row i have their rows
@@ -15,7 +15,7 @@ pub record Growing (o : DomainName) (rs : List ResourceRecord) (rows : List Row)
   pub each : (k : ℕ) → k < length rows → IsRow rs (row_at rows k) (row_name rs (row_at rows k))
   pub rise : (k : ℕ) → k < i → get_or bounds k 0 ≤ get_or bounds (k + 1) 0
   pub within : (k : ℕ) → k < i → get_or bounds (k + 1) 0 ≤ length rows
-  pub kids : (k : ℕ) → k < i → AreKids rs (row_name rs (row_at rows k)) (kids_at rows bounds k)
+  pub children : (k : ℕ) → k < i → AreChildren rs (row_name rs (row_at rows k)) (children_at rows bounds k)
 
 pub own_name : (rs : List ResourceRecord) (row : Row) (n : DomainName) → IsRow rs row n
     → IsRow rs row (row_name rs row)
@@ -28,7 +28,7 @@ begin o rs row h = grind (arith, own_name)
 module _ (o : DomainName) (rs : List ResourceRecord) (rows : List Row) (bounds : List ℕ) (i : ℕ)
     (g : Growing o rs rows bounds i) where
   module _ (h : i < length rows) (rows' : List Row)
-      (a : AddsKids rs (row_name rs (row_at rows i)) rows rows') where
+      (a : AddsChildren rs (row_name rs (row_at rows i)) rows rows') where
     abbrev bounds' : List ℕ
     bounds' = bounds ++ length rows' ∷ []
 
@@ -58,14 +58,14 @@ module _ (o : DomainName) (rs : List ResourceRecord) (rows : List Row) (bounds :
             let fits : k - length rows < length (drop (length rows) rows') =
             omega (arith, length-drop (length rows) rows') in
             let at : length rows + (k - length rows) ≡ k = omega arith in
-            let kid =
-            each_get (IsKid rs n) (drop (length rows) rows') (k - length rows) no_row a.kids.each
+            let child =
+            each_get (IsChild rs n) (drop (length rows) rows') (k - length rows) no_row a.children.each
             fits in
             let there : get_or
             (drop (length rows) rows') (k - length rows) no_row ≡ row_at rows' k =
             get_or-drop (length rows) rows' (k - length rows) no_row ∙ ap (row_at rows') at in
             subst (λ (r : Row). IsRow rs r (row_name rs r)) there
-            (own_name rs _ (kid.label ∷ n) kid.is_row)
+            (own_name rs _ (child.label ∷ n) child.is_row)
 
     rise_now : (k : ℕ) → k < i + 1 → get_or bounds' k 0 ≤ get_or bounds' (k + 1) 0
     rise_now k l = grind (arith, now, bound, last_bound)
@@ -73,11 +73,11 @@ module _ (o : DomainName) (rs : List ResourceRecord) (rows : List Row) (bounds :
     within_now : (k : ℕ) → k < i + 1 → get_or bounds' (k + 1) 0 ≤ length rows'
     within_now k l = grind (arith, now, bound, last_bound)
 
-    kids_now : (k : ℕ) → k < i + 1
-        → AreKids rs (row_name rs (row_at rows' k)) (kids_at rows' bounds' k)
-    kids_now k l = go (now k l)
+    children_now : (k : ℕ) → k < i + 1
+        → AreChildren rs (row_name rs (row_at rows' k)) (children_at rows' bounds' k)
+    children_now k l = go (now k l)
       where
-        go : (k < i) ⊎ (k ≡ i) → AreKids rs (row_name rs (row_at rows' k)) (kids_at rows' bounds' k)
+        go : (k < i) ⊎ (k ≡ i) → AreChildren rs (row_name rs (row_at rows' k)) (children_at rows' bounds' k)
         go (inl m) = grind (arith, bound, whole, span_front, keep)
         go (inr m) = grind (arith, bound, last_bound, take_all, length-drop, keep)
 
@@ -91,7 +91,7 @@ module _ (o : DomainName) (rs : List ResourceRecord) (rows : List Row) (bounds :
       each = each_now;
       rise = rise_now;
       within = within_now;
-      kids = kids_now;
+      children = children_now;
     }
 
   pub finish : i ≡ length rows → IsTree o rs rows bounds

@@ -2,12 +2,12 @@ pub mod Common
 pub mod EndingNames
 pub mod Entries
 pub mod OwnerKeys
-pub mod PlaceOrder
-pub mod SortedPlaces
+pub mod SortKeyOrder
+pub mod SortedKeys
 pub mod Gathered
 pub mod Targets
 pub mod KnownRecords
-pub mod BoundedKids
+pub mod BoundedChildren
 pub mod BuiltZone
 pub mod PrintedRecords
 pub mod NameOrder
@@ -23,11 +23,11 @@ pub mod NodeSets
 pub mod Existing
 pub mod Spans
 pub mod ChildNames
-pub mod KidRows
+pub mod ChildRows
 pub mod NameRow
-pub mod GrowingKids
+pub mod GrowingChildren
 pub mod GrowingTree
-pub mod FoundKid
+pub mod FoundChild
 pub mod NodeRows
 pub mod KeyOrder
 pub mod KeyPrefix
@@ -38,5 +38,5 @@ pub mod CheckedNames
 pub mod GrowingNames
 pub mod LabelKeys
 pub mod LabelStarts
-pub mod WayLaws
+pub mod PathLaws
 pub mod SearchSteps

@@ -5,8 +5,8 @@ use Rattle.std.specs.Prelude.{max}
 use Rattle.dns_zone.proofs.NameTree.{itself-under}
 use Rattle.dns_zone.proofs.EndingNames.{ends_in}
 use Rattle.dns_zone.proofs.AtName.{ordered_records, OwnerNotAfter, owners_in_order, is_at}
-use Rattle.dns_zone.proofs.BoundedKids.{none_at, widened}
-use Rattle.dns_zone.proofs.KidRows.{is_under, under_parted, at_in_front}
+use Rattle.dns_zone.proofs.BoundedChildren.{none_at, widened}
+use Rattle.dns_zone.proofs.ChildRows.{is_under, under_parted, at_in_front}
 use Rattle.dns_spec.proofs.General.Filters.{filter_within}
 use Rattle.dns_spec.proofs.General.Pairs.{Pairs, unmoved, pairs_drop}
 use Rattle.dns_spec.proofs.General.Fronts.{parted_take, both_fronts, front}

@@ -1,8 +1,8 @@
 -- The nodes of a zone by their rows.
-use Rattle.dns_zone.proofs.Common.{◌≡◌, ℕ, ◌+◌, ◌-◌, ◌<◌, ◌≤◌, true, List, [], ◌∷◌, length, drop, get_or, sym, ap, ◌∙◌, arith, subst, length-take, get_or-take, get_or-drop, get_or_default, list_any, Octets, DomainName, at_or_below, ResourceRecord, exists, AllByRecursion, each_weaker, contains_among, IsNode, IsZoneNode, first_of, row_name, row_label, row_at, kids_at, IsRow, IsKid, AreKids, Row, Tree}
+use Rattle.dns_zone.proofs.Common.{◌≡◌, ℕ, ◌+◌, ◌-◌, ◌<◌, ◌≤◌, true, List, [], ◌∷◌, length, drop, get_or, sym, ap, ◌∙◌, arith, subst, length-take, get_or-take, get_or-drop, get_or_default, list_any, Octets, DomainName, at_or_below, ResourceRecord, exists, AllByRecursion, each_weaker, contains_among, IsNode, IsZoneNode, first_of, row_name, row_label, row_at, children_at, IsRow, IsChild, AreChildren, Row, Tree}
 use Rattle.dns_zone.proofs.Spans.{in_span}
-use Rattle.dns_zone.proofs.KidRows.{is_under}
-use Rattle.dns_zone.proofs.GrowingKids.{row_is}
+use Rattle.dns_zone.proofs.ChildRows.{is_under}
+use Rattle.dns_zone.proofs.GrowingChildren.{row_is}
 use Rattle.dns_zone.proofs.GrowingTree.{own_name}
 use Rattle.dns_spec.proofs.General.Elements.{each_get}
 use Rattle.dns_spec.proofs.General.Tests.{among_any}
@@ -46,35 +46,35 @@ module _ (t : Tree) (k : ℕ) (at : IsZoneNode t k) where
   abbrev end : ℕ
   end = get_or t.bounds (k + 1) 0
 
-  abbrev kids : List Row
-  kids = kids_at t.rows t.bounds k
+  abbrev children : List Row
+  children = children_at t.rows t.bounds k
 
-  pub are_kids : AreKids rs name kids
-  are_kids = at.kept.tree.kids k at.row
+  pub are_children : AreChildren rs name children
+  are_children = at.kept.tree.children k at.row
 
-  pub kid_rows : AllByRecursion (λ c. IsRow rs c (row_name rs c)) kids
-  kid_rows =
-      each_weaker (IsKid rs name) (λ c. IsRow rs c (row_name rs c)) kids
-      (λ c h. own_name rs c (h.label ∷ name) h.is_row) are_kids.each
+  pub child_rows : AllByRecursion (λ c. IsRow rs c (row_name rs c)) children
+  child_rows =
+      each_weaker (IsChild rs name) (λ c. IsRow rs c (row_name rs c)) children
+      (λ c h. own_name rs c (h.label ∷ name) h.is_row) are_children.each
 
   -- a child by its index among the children
-  module _ (i : ℕ) (fits : i < length kids) where
-    size : length kids ≤ end - start
+  module _ (i : ℕ) (fits : i < length children) where
+    size : length children ≤ end - start
     size = omega (arith, length-take (end - start) (drop start t.rows))
 
-    pub row_of_kid : row_at t.rows (start + i) ≡ row_at kids i
-    row_of_kid = grind (arith, size, get_or-take, get_or-drop)
+    pub row_of_child : row_at t.rows (start + i) ≡ row_at children i
+    row_of_child = grind (arith, size, get_or-take, get_or-drop)
 
-    the_kid : IsKid rs name (row_at kids i)
-    the_kid = each_get (IsKid rs name) kids i _ are_kids.each fits
+    the_child : IsChild rs name (row_at children i)
+    the_child = each_get (IsChild rs name) children i _ are_children.each fits
 
-    pub kid_name : row_name rs (row_at t.rows (start + i)) ≡ row_label rs (row_at kids i) ∷ name
-    kid_name =
-        let whole = row_is rs (row_at kids i) (the_kid.label ∷ name) the_kid.is_row in
-        ap (row_name rs) row_of_kid ∙ whole ∙ ap (λ (n : DomainName). first_of n ∷ name) (sym whole)
+    pub child_name : row_name rs (row_at t.rows (start + i)) ≡ row_label rs (row_at children i) ∷ name
+    child_name =
+        let whole = row_is rs (row_at children i) (the_child.label ∷ name) the_child.is_row in
+        ap (row_name rs) row_of_child ∙ whole ∙ ap (λ (n : DomainName). first_of n ∷ name) (sym whole)
 
-    pub kid_exists : exists t.zone (row_label rs (row_at kids i) ∷ name) ≡ true
-    kid_exists =
-        let whole = row_is rs (row_at kids i) (the_kid.label ∷ name) the_kid.is_row in
+    pub child_exists : exists t.zone (row_label rs (row_at children i) ∷ name) ≡ true
+    child_exists =
+        let whole = row_is rs (row_at children i) (the_child.label ∷ name) the_child.is_row in
         subst (λ (l : Octets). exists t.zone (l ∷ name) ≡ true) (sym (ap first_of whole))
-        (row_exists rs (row_at kids i) (the_kid.label ∷ name) the_kid.is_row)
+        (row_exists rs (row_at children i) (the_child.label ∷ name) the_child.is_row)

@@ -11,7 +11,7 @@ pub mod OwnerForm
 pub mod ReportedForm
 pub mod KeyForm
 pub mod OwnerKeysForm
-pub mod PlaceForm
+pub mod SortKeyForm
 pub mod LabelKey
 pub mod Starts
 pub mod NameEnd

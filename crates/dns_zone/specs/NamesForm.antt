@@ -90,7 +90,7 @@ pub record IsLastUpto (z : ZoneContents) (n : DomainName) (c : CheckedName) : Ty
       → is_gt (name_order m (owner_of z c)) ≡ false
 
 -- an invariant of a zone under check
-pub record IsSurvey (z : ZoneContents) (key : Octets) (names : List CheckedName) : Type 0 where
+pub record IsCheckContext (z : ZoneContents) (key : Octets) (names : List CheckedName) : Type 0 where
   pub key_is : key ≡ name_key z.origin
   pub lower : folded z.origin ≡ z.origin
   pub names_are : AreChecked z names

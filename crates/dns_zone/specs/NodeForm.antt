@@ -3,7 +3,7 @@ use Rattle.std.specs.Prelude.{◌≡◌, ℕ, ◌+◌, ◌<◌, ◌≤◌, List,
 use Rattle.dns_spec.specs.Names.{Octets}
 use Rattle.dns_zone.specs.Nodes.{ZoneNode}
 use Rattle.dns_zone.specs.ZoneForm.{IsBuilt}
-use Rattle.dns_zone.specs.TreeForm.{IsTree, kids_at, row_name, row_label, row_at}
+use Rattle.dns_zone.specs.TreeForm.{IsTree, children_at, row_name, row_label, row_at}
 use Rattle.dns_zone.specs.declared.tree.row.Row.{Row}
 use Rattle.dns_zone.specs.declared.tree.zone_tree.Tree.{Tree}
 
@@ -26,15 +26,15 @@ pub record TreeRow : Type 0 where
   pub tree : Tree
   pub row : ℕ
 
-abbrev pub kid_rows : TreeRow → List Row
-kid_rows v = kids_at v.tree.rows v.tree.bounds v.row
+abbrev pub child_rows : TreeRow → List Row
+child_rows v = children_at v.tree.rows v.tree.bounds v.row
 
-abbrev pub kid_label : TreeRow → ℕ → Octets
-kid_label v i = row_label v.tree.zone.records (row_at (kid_rows v) i)
+abbrev pub child_label : TreeRow → ℕ → Octets
+child_label v i = row_label v.tree.zone.records (row_at (child_rows v) i)
 
 -- `rows` are the rows of a node's children; the first of them has the row number `start`
-pub record AreKidsAt (v : TreeRow) (start : ℕ) (rows : List Row) : Type 0 where
+pub record AreChildrenAt (v : TreeRow) (start : ℕ) (rows : List Row) : Type 0 where
   pub at : IsZoneNode v.tree v.row
   pub start_is : start ≡ get_or v.tree.bounds v.row 0
-  pub rows_are : rows ≡ kid_rows v
+  pub rows_are : rows ≡ child_rows v
   pub fits : start + length rows ≤ 18446744073709551615

@@ -52,17 +52,17 @@ pub record IsRow (rs : List ResourceRecord) (row : Row) (n : DomainName) : Type 
   pub own : span rs row.first row.own_end ≡ filter (λ (r : ResourceRecord). same r.owner n) rs
 
 -- the row of a name one label below n
-pub record IsKid (rs : List ResourceRecord) (n : DomainName) (row : Row) : Type 0 where
+pub record IsChild (rs : List ResourceRecord) (n : DomainName) (row : Row) : Type 0 where
   pub label : Octets
   pub is_row : IsRow rs row (label ∷ n)
 
 -- the rows of all existing names one label below n, ordered by label
-pub record AreKids (rs : List ResourceRecord) (n : DomainName) (kids : List Row) : Type 0 where
-  pub each : AllByRecursion (IsKid rs n) kids
-  pub rising : Rises label_order (map (row_label rs) kids)
+pub record AreChildren (rs : List ResourceRecord) (n : DomainName) (children : List Row) : Type 0 where
+  pub each : AllByRecursion (IsChild rs n) children
+  pub rising : Rises label_order (map (row_label rs) children)
   pub all : (l : Octets) → list_any (λ (r : ResourceRecord). at_or_below r.owner (l ∷ n)) rs ≡ true
-      → Among (map to_ascii_lowercase l) (map (row_label rs) kids)
-  pub few : length kids ≤ length rs
+      → Among (map to_ascii_lowercase l) (map (row_label rs) children)
+  pub few : length children ≤ length rs
 
 abbrev pub no_row : Row
 no_row = record { first = 0; own_end = 0; end = 0; place = 0; label_octets = 0; key = record { front = 0; next = 0 } }
@@ -71,8 +71,8 @@ abbrev pub row_at : List Row → ℕ → Row
 row_at rows k = get_or rows k no_row
 
 -- the children of row k are the rows from bound k to before bound k + 1
-abbrev pub kids_at : List Row → List ℕ → ℕ → List Row
-kids_at rows bounds k = span rows (get_or bounds k 0) (get_or bounds (k + 1) 0)
+abbrev pub children_at : List Row → List ℕ → ℕ → List Row
+children_at rows bounds k = span rows (get_or bounds k 0) (get_or bounds (k + 1) 0)
 
 -- rows for the origin and all existing names below it, level by level
 pub record IsTree (o : DomainName) (rs : List ResourceRecord) (rows : List Row)
@@ -83,5 +83,5 @@ pub record IsTree (o : DomainName) (rs : List ResourceRecord) (rows : List Row)
   pub each : (k : ℕ) → k < length rows → IsRow rs (row_at rows k) (row_name rs (row_at rows k))
   pub rise : (k : ℕ) → k < length rows → get_or bounds k 0 ≤ get_or bounds (k + 1) 0
   pub within : (k : ℕ) → k < length rows → get_or bounds (k + 1) 0 ≤ length rows
-  pub kids : (k : ℕ) → k < length rows
-      → AreKids rs (row_name rs (row_at rows k)) (kids_at rows bounds k)
+  pub children : (k : ℕ) → k < length rows
+      → AreChildren rs (row_name rs (row_at rows k)) (children_at rows bounds k)

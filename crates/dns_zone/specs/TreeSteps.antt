@@ -2,11 +2,11 @@
 use Rattle.std.specs.Prelude.{◌≡◌, ◌≤◌, List, length, take, drop}
 use Rattle.dns_spec.specs.Names.{DomainName}
 use Rattle.dns_spec.specs.Records.{ResourceRecord}
-use Rattle.dns_zone.specs.TreeForm.{AreKids}
+use Rattle.dns_zone.specs.TreeForm.{AreChildren}
 use Rattle.dns_zone.specs.declared.tree.row.Row.{Row}
 
 -- `new` is `old`, followed by the rows of the children of n
-pub record AddsKids (rs : List ResourceRecord) (n : DomainName) (old new : List Row) : Type 0 where
+pub record AddsChildren (rs : List ResourceRecord) (n : DomainName) (old new : List Row) : Type 0 where
   pub longer : length old ≤ length new
   pub kept : take (length old) new ≡ old
-  pub kids : AreKids rs n (drop (length old) new)
+  pub children : AreChildren rs n (drop (length old) new)

@@ -6,8 +6,8 @@ use Rattle.dns_spec.specs.Records.{ResourceRecord, ZoneContents, sort_by, record
 use Rattle.dns_spec.specs.Checks.{faults, Passes}
 use Rattle.dns_spec.specs.Meaning.{most_records}
 use Rattle.dns_spec.specs.ZonePrinted.{IsReadRecord, is_soa}
-use Rattle.dns_zone.specs.declared.fault.BuildFault.{BuildFault}
-use Rattle.dns_zone.specs.declared.fault.BuildFault.TheVariants.{Faults, NoMemory}
+use Rattle.dns_zone.specs.declared.build_fault.BuildFault.{BuildFault}
+use Rattle.dns_zone.specs.declared.build_fault.BuildFault.TheVariants.{Faults, NoMemory}
 
 -- in canonical order: sorting them changes nothing
 abbrev pub AreOrdered : List ResourceRecord → Type 0

@@ -8,8 +8,8 @@ ghost use Rattle.dns_spec.specs.Meaning.{most_records};
 ghost use Rattle.dns_spec.specs.ZonePrinted.{is_soa};
 ghost use Rattle.dns_zone.specs.ZoneForm.{IsBuilt, ReportsFaults};
 
+use crate::build_fault::BuildFault;
 use crate::checks::faults;
-use crate::fault::BuildFault;
 use crate::order::sort::sorted;
 use crate::shared_slice::SharedSlice;
 use crate::store::Store;
@@ -54,14 +54,14 @@ impl CheckedZone {
     pub fn serial(&self) -> u32
         ensures { result ≡ zone_serial self.now }
     {
-        serial_at(&self.origin.lent(), self.records.lent())
+        serial_at(&self.origin.borrowed(), self.records.borrowed())
     }
 
     pub(crate) fn records(&self) -> &[StoredRecord]
         ensures records { result.now ≡ self.now.records }
         ensures built { IsBuilt self.now }
     {
-        self.records.lent()
+        self.records.borrowed()
     }
 }
 
@@ -80,8 +80,8 @@ impl Store {
     {
         let Store { entries, .. } = self;
         let origin = origin.fold();
-        let (records, keyed) = sorted(alloc, &origin.lent(), entries)?;
-        let found = faults(alloc, &origin.lent(), records.as_slice(), &keyed)?;
+        let (records, keyed) = sorted(alloc, &origin.borrowed(), entries)?;
+        let found = faults(alloc, &origin.borrowed(), records.as_slice(), &keyed)?;
         if !found.is_empty() {
             return Err(BuildFault::Faults(found));
         }

@@ -1,7 +1,7 @@
 //! The faults of a zone, ordered by owner, then by code.
 
+pub(crate) mod context;
 pub(crate) mod owner;
-pub(crate) mod survey;
 pub(crate) mod target;
 
 ghost use Rattle.std.specs.Prelude.{◌≡◌, ◌≤◌, ◌++◌, length, IfOk, OnOk};
@@ -15,10 +15,10 @@ ghost use Rattle.dns_zone.specs.OwnerKeysForm.{key_in, AreKeyed};
 ghost use Rattle.dns_zone.specs.NamesForm.{IsChecked, owner_of};
 ghost use Rattle.dns_zone.specs.ReportedForm.{failed_from, reported_at};
 
+use crate::build_fault::CheckFault;
+use crate::checks::context::CheckContext;
 use crate::checks::owner::Owner;
-use crate::checks::survey::Survey;
 use crate::checks::target::LastTarget;
-use crate::fault::CheckFault;
 use crate::names::{CheckedName, checked_names};
 use crate::order::owner_keys::OwnerKeys;
 use crate::store::stored::StoredRecord;
@@ -46,7 +46,7 @@ pub(crate) fn faults<'a>(
 {
     let (key, _) = keyed.keys.as_slice().split_at(origin.octets().len() - 1);
     let names = checked_names(alloc, origin, key, records, keyed)?;
-    let survey = Survey {
+    let context = CheckContext {
         origin,
         key,
         records,
@@ -56,30 +56,30 @@ pub(crate) fn faults<'a>(
     let mut last = LastTarget::new();
     'names: for one in names.as_slice() {
         last.pass_name();
-        report(&survey, one, &mut last, &mut found)?;
+        report(&context, one, &mut last, &mut found)?;
     }
     Ok(found)
 }
 
 fn report<'a>(
-    survey: &'a Survey<'a>,
+    context: &'a CheckContext<'a>,
     one: &'a CheckedName<'a>,
     last: &mut LastTarget,
     found: &mut Vec<CheckFault>,
 ) -> Result<(), AllocError>
-    requires { IsChecked survey.now (owner_of survey.now one.now) one.now }
+    requires { IsChecked context.now (owner_of context.now one.now) one.now }
     ensures { OnOk result (found.new.items ≡ found.old.items
-        ++ reported_at survey.now (owner_of survey.now one.now)) }
+        ++ reported_at context.now (owner_of context.now one.now)) }
 {
-    let name = survey.name(one);
-    let own = survey.own(one);
+    let name = context.name(one);
+    let own = context.own(one);
     let owner = Owner {
-        survey,
+        context,
         name: &name,
         key: one.key,
         own,
         is_below_cut: 0 < one.cut && one.cut < one.key.len(),
-        stands_first: one.key == survey.key(),
+        stands_first: one.key == context.key(),
     };
     if owner.is_plain() {
         return Ok(());

@@ -2,9 +2,9 @@
 //! canonical text.
 #![tactic(auto)]
 
+mod build_fault;
 mod checked;
 mod checks;
-mod fault;
 mod names;
 mod order;
 mod printed;
@@ -13,8 +13,8 @@ mod store;
 mod tree;
 mod zone;
 
+pub use build_fault::{BuildFault, CheckFault};
 pub use checked::CheckedZone;
-pub use fault::{BuildFault, CheckFault};
 pub use printed::{PrintFault, print};
 pub use store::Store;
 pub use tree::labels::{MOST_LABELS, label_after, put_starts};

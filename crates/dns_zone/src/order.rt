@@ -4,8 +4,8 @@ pub(crate) mod above;
 pub(crate) mod key;
 pub(crate) mod lookup;
 pub(crate) mod owner_keys;
-pub(crate) mod place;
 pub(crate) mod sort;
+pub(crate) mod sort_key;
 
 ghost use Rattle.std.specs.Prelude.{◌≡◌};
 ghost use Rattle.std.specs.Ordering.{nat_cmp, ordering_then};

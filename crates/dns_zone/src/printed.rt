@@ -104,7 +104,7 @@ fn put_record<W: Write>(
     ensures { Fills W.contents sink.old sink.new result
         (text.old ++ record_line entry.now) text.new }
 {
-    text.make_room(FRONT_ROOM, sink)?;
+    text.reserve(FRONT_ROOM, sink)?;
     let mut digits = Buffer::new();
     entry.owner().append_text(text);
     text.push(b' ');
@@ -113,7 +113,7 @@ fn put_record<W: Write>(
     entry.rtype.append_text(text);
     text.push(b' ');
     Rdata::put_text(entry.rtype, entry.rdata(), text, sink)?;
-    text.make_room(1, sink)?;
+    text.reserve(1, sink)?;
     text.push(b'\n');
     Ok(())
 }

@@ -24,7 +24,7 @@ impl<T> SharedSlice<T> {
         SharedSlice { items }
     }
 
-    pub(crate) fn lent(&self) -> &[T]
+    pub(crate) fn borrowed(&self) -> &[T]
         ensures { result.now ≡ self.now }
     {
         self.items.as_slice()

@@ -1,8 +1,8 @@
 //! The names of a zone as a list of rows, level by level. The children of a row are adjacent, in
 //! the order of their labels.
 
+pub(crate) mod children;
 pub(crate) mod counts;
-pub(crate) mod kids;
 pub(crate) mod label_key;
 pub(crate) mod labels;
 pub(crate) mod lower_case;
@@ -18,7 +18,7 @@ ghost use Rattle.std.specs.Prelude.{◌≡◌, ◌<◌, length, IfOk, OnOk};
 ghost use Rattle.dns_name.specs.WireForm.{labels_of, IsWireForm};
 ghost use Rattle.dns_zone.specs.ZoneForm.{IsBuilt, IsCanonical};
 ghost use Rattle.dns_zone.specs.TreeForm.{row_octets, row_name, row_at, IsRow, IsTree};
-ghost use Rattle.dns_zone.specs.TreeSteps.{AddsKids};
+ghost use Rattle.dns_zone.specs.TreeSteps.{AddsChildren};
 
 use crate::order::above::shortest_end;
 use crate::shared_slice::SharedSlice;
@@ -49,7 +49,7 @@ pub(crate) fn rows_of(
         if number == rows.len() {
             break;
         }
-        add_kids(records, number, &mut rows)?;
+        add_children(records, number, &mut rows)?;
         bounds.push(to_u32(rows.len())?)?;
     }
     Ok((SharedSlice::new(rows), SharedSlice::new(bounds)))
@@ -63,23 +63,27 @@ pub(crate) fn to_u32(rows: usize) -> Result<u32, AllocError>
 }
 
 // Adds the rows of a row's children after all other rows.
-fn add_kids(records: &[StoredRecord], number: usize, rows: &mut Vec<Row>) -> Result<(), AllocError>
+fn add_children(
+    records: &[StoredRecord],
+    number: usize,
+    rows: &mut Vec<Row>,
+) -> Result<(), AllocError>
     requires canonical { IsCanonical records.now }
     requires number { number < length rows.old.items }
     requires row { IsRow records.now (row_at rows.old.items number)
         (row_name records.now (row_at rows.old.items number)) }
-    ensures { OnOk result (AddsKids records.now
+    ensures { OnOk result (AddsChildren records.now
         (row_name records.now (row_at rows.old.items number)) rows.old.items rows.new.items) }
 {
     let row = &rows[number];
     let parent = octets_of(records, row);
     let end = row.end as usize;
     let mut next = row.own_end as usize;
-    'kids: while next < end {
+    'children: while next < end {
         let name = shortest_end(&records[next].owner(), parent.len() + 1);
-        let kid = Row::of(records, &name, next, end);
-        next = kid.end as usize;
-        rows.push(kid)?;
+        let child = Row::of(records, &name, next, end);
+        next = child.end as usize;
+        rows.push(child)?;
     }
     Ok(())
 }

@@ -6,8 +6,8 @@ ghost use Rattle.dns_spec.specs.Checks.{faults};
 ghost use Rattle.dns_spec.specs.Meaning.{most_records};
 ghost use Rattle.dns_zone.specs.ZoneForm.{IsBuilt, ReportsFaults};
 
+use crate::build_fault::BuildFault;
 use crate::checked::CheckedZone;
-use crate::fault::BuildFault;
 use crate::store::Store;
 use crate::tree::steps::Steps;
 use crate::tree::zone_tree::Tree;

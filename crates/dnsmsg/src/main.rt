@@ -3,7 +3,7 @@
 #![tactic(auto)]
 
 use dns_name::Tally;
-use dns_tools::{FaultWord, Nonblocking, end, end_of, finish, given_words, run_message};
+use dns_tools::{FaultText, Nonblocking, end, end_of, finish, given_words, run_message};
 use std::io::{self, BufWriter};
 use std::process::ExitCode;
 use std::rt::Env;
@@ -14,13 +14,13 @@ fn main(rt: HostRuntime) -> ExitCode {
 }
 
 // Prints the message on standard input, and returns the exit status. Takes no arguments.
-fn print<R: Env + Input + Print + Clock + AllocGlobal>(rt: &R) -> Result<u8, FaultWord> {
+fn print<R: Env + Input + Print + Clock + AllocGlobal>(rt: &R) -> Result<u8, FaultText> {
     let alloc = rt.alloc();
     if !given_words(rt)?.is_empty() {
-        return Err(FaultWord::Usage);
+        return Err(FaultText::Usage);
     }
     let output = BufWriter::new(alloc, Nonblocking::new(io::writer(rt), rt));
-    let mut sink = Tally::new(output.map_err(|_| FaultWord::NoMemory)?);
+    let mut sink = Tally::new(output.map_err(|_| FaultText::NoMemory)?);
     let mut source = Tally::new(Nonblocking::new(rt.reader(), rt));
     let outcome = run_message(alloc, &mut source, &mut sink);
     let (outcome, _device) = finish(outcome, sink.into_inner());

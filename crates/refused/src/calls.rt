@@ -6,7 +6,7 @@ use dns_master::read_zone;
 use dns_name::{Name, NameFault, Tally};
 use dns_samples_tests::MIXED;
 use dns_serve::serve_stream;
-use dns_tools::{FaultWord, Flags, check_zone};
+use dns_tools::{FaultText, Flags, check_zone};
 use dns_zone::{BuildFault, Steps, Zone};
 use std::alloc::{AllocError, Global};
 use std::str;
@@ -16,7 +16,7 @@ pub(crate) fn example() -> Result<Name, NameFault> {
     Name::read_text(b"example", &Name::root())
 }
 
-pub(crate) fn check(alloc: Global, said: &mut String) -> Result<(), FaultWord> {
+pub(crate) fn check(alloc: Global, said: &mut String) -> Result<(), FaultText> {
     let flags = Flags {
         quiet: false,
         print: true,
@@ -36,7 +36,7 @@ fn written(room: &[u8], left: usize) -> &[u8] {
     room.get(..room.len().saturating_sub(left)).unwrap_or(&[])
 }
 
-pub(crate) fn read_and_build(alloc: Global, said: &mut String) -> Result<(), FaultWord> {
+pub(crate) fn read_and_build(alloc: Global, said: &mut String) -> Result<(), FaultText> {
     let records = match read_zone(alloc, &example()?, &mut Tally::new(MIXED.as_bytes())) {
         Ok(records) => records,
         Err(fault) => return Ok(writeln!(said, "read_zone: {:?}", fault.code)?),

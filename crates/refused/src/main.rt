@@ -12,7 +12,7 @@ mod samples;
 
 use calls::{answer_questions, answer_sessions, check, example, read_and_build};
 use dns_name::Tally;
-use dns_tools::{FaultWord, LoadFault, given_words, load_zone, open_file, say};
+use dns_tools::{FaultText, LoadFault, given_words, load_zone, open_file, say};
 use dns_wire::read_message;
 use samples::MESSAGE;
 use std::io::{self, Write};
@@ -30,11 +30,11 @@ fn main(rt: HostRuntime) -> ExitCode {
 }
 
 // Makes the calls, and prints their results.
-fn call<R: Env + Files + Print + AllocGlobal>(rt: &R) -> Result<(), FaultWord> {
+fn call<R: Env + Files + Print + AllocGlobal>(rt: &R) -> Result<(), FaultText> {
     let alloc = rt.alloc();
     let words = given_words(rt)?;
     let [path] = words.as_slice() else {
-        return Err(FaultWord::Usage);
+        return Err(FaultText::Usage);
     };
     let mut said = String::with_capacity(alloc, ROOM)?;
     check(alloc, &mut said)?;
@@ -52,5 +52,5 @@ fn call<R: Env + Files + Print + AllocGlobal>(rt: &R) -> Result<(), FaultWord> {
         Err(LoadFault::Refused(_refusal)) => said.push_str("load_zone: refused\n")?,
     }
     let printed = io::writer(rt).write_all(said.as_bytes());
-    printed.map_err(|_| FaultWord::SinkFailed)
+    printed.map_err(|_| FaultText::SinkFailed)
 }

@@ -3,7 +3,7 @@
 use crate::case::{Answer, Case};
 use dns_name::Tally;
 use dns_tools::{
-    FAULT_STATUS, FaultWord, Service, check_words, check_zone, end_of, load_zone, run_message,
+    FAULT_STATUS, FaultText, Service, check_words, check_zone, end_of, load_zone, run_message,
     run_once, serve_words,
 };
 use std::alloc::{AllocError, Global};
@@ -22,9 +22,9 @@ pub(crate) fn answer(alloc: Global, case: &Case<'_>) -> Result<Answer, AllocErro
 
 // Calls what the program calls, with the arguments, the zone file and the standard input of the
 // case. `zoneserve` is supported only with `once`, and only for a zone without faults.
-fn report(alloc: Global, case: &Case<'_>) -> Result<Answer, FaultWord> {
+fn report(alloc: Global, case: &Case<'_>) -> Result<Answer, FaultText> {
     let Some((program, words)) = case.words.as_slice().split_first() else {
-        return Err(FaultWord::Usage);
+        return Err(FaultText::Usage);
     };
     let mut file = Tally::new(case.file.as_slice());
     let mut input = Tally::new(case.input.as_slice());
@@ -37,15 +37,15 @@ fn report(alloc: Global, case: &Case<'_>) -> Result<Answer, FaultWord> {
         "zoneserve" => {
             let words = serve_words(alloc, words)?;
             let Service::Once(limit) = words.service else {
-                return Err(FaultWord::Usage);
+                return Err(FaultText::Usage);
             };
             let Ok(zone) = load_zone(alloc, &words.origin, &mut file) else {
-                return Err(FaultWord::SourceFailed);
+                return Err(FaultText::SourceFailed);
             };
             run_once(alloc, &zone, limit, &mut input, &mut sink)
         }
         "dnsmsg" => run_message(alloc, &mut input, &mut sink),
-        _ => return Err(FaultWord::Usage),
+        _ => return Err(FaultText::Usage),
     })?;
     let written = sink.into_inner();
     Ok(Answer { status, written })

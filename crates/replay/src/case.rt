@@ -1,6 +1,6 @@
 //! The format of a case.
 
-use dns_tools::FaultWord;
+use dns_tools::FaultText;
 use percent_encoding::percent_decode;
 use std::alloc::Global;
 use std::str::Lines;
@@ -29,7 +29,7 @@ pub(crate) struct Answer {
 impl Case<'_> {
     /// Parses a case: a line with the program and its arguments, the lines of the file and of
     /// standard input, the line of the status, and the lines of output.
-    pub(crate) fn read(alloc: Global, text: &str) -> Result<Case<'_>, FaultWord> {
+    pub(crate) fn read(alloc: Global, text: &str) -> Result<Case<'_>, FaultText> {
         let (asked, answered) = text.split_once("\nstatus ").unwrap_or((text, ""));
         let (asked, input) = asked
             .split_once("\nstandard input\n")
@@ -40,7 +40,7 @@ impl Case<'_> {
             words.push(word)?;
         }
         let Ok(status) = answered.next().unwrap_or("").parse() else {
-            return Err(FaultWord::SourceFailed);
+            return Err(FaultText::SourceFailed);
         };
         Ok(Case {
             words,
@@ -56,11 +56,11 @@ impl Case<'_> {
 
 // The octets that lines spell. Each line stands for its octets and an LF, or, if it ends with `%`,
 // for its octets alone.
-fn octets_of(alloc: Global, lines: Lines<'_>) -> Result<Vec<u8>, FaultWord> {
+fn octets_of(alloc: Global, lines: Lines<'_>) -> Result<Vec<u8>, FaultText> {
     let mut octets = Vec::new(alloc);
     for line in lines {
         let Some(line) = line.strip_prefix("|") else {
-            return Err(FaultWord::SourceFailed);
+            return Err(FaultText::SourceFailed);
         };
         let spelled = line.strip_suffix("%");
         percent_decode(spelled.unwrap_or(line).as_bytes()).append_to(&mut octets)?;

@@ -10,7 +10,7 @@ mod case;
 
 use answer::answer;
 use case::Case;
-use dns_tools::{FaultWord, given_words, say};
+use dns_tools::{FaultText, given_words, say};
 use std::fs;
 use std::io::{self, Write};
 use std::process::ExitCode;
@@ -25,10 +25,10 @@ fn main(rt: HostRuntime) -> ExitCode {
 }
 
 // Whether the output of all cases in all files is as recorded. Empty lines separate cases.
-fn replay<R: Env + Files + Print + AllocGlobal>(rt: &R) -> Result<bool, FaultWord> {
+fn replay<R: Env + Files + Print + AllocGlobal>(rt: &R) -> Result<bool, FaultText> {
     let mut passes = true;
     for file in given_words(rt)?.as_slice() {
-        let text = fs::read_to_string(rt, file.as_str()).map_err(|_| FaultWord::SourceFailed)?;
+        let text = fs::read_to_string(rt, file.as_str()).map_err(|_| FaultText::SourceFailed)?;
         let (mut count, mut differing) = (0u32, 0u32);
         for part in text.as_str().split("\n\n") {
             if part.starts_with('#') {
@@ -40,21 +40,21 @@ fn replay<R: Env + Files + Print + AllocGlobal>(rt: &R) -> Result<bool, FaultWor
                 passes = false;
             }
         }
-        println!(rt; "{count} cases, {differing} differ").map_err(|_| FaultWord::SinkFailed)?;
+        println!(rt; "{count} cases, {differing} differ").map_err(|_| FaultText::SinkFailed)?;
     }
     Ok(passes)
 }
 
 // Whether the output of a case is as recorded. If not, prints the case and its output.
-fn gives_its_answer<R: Print + AllocGlobal>(rt: &R, part: &str) -> Result<bool, FaultWord> {
+fn gives_its_answer<R: Print + AllocGlobal>(rt: &R, part: &str) -> Result<bool, FaultText> {
     let case = Case::read(rt.alloc(), part)?;
     let given = answer(rt.alloc(), &case)?;
     if given == case.wanted {
         return Ok(true);
     }
     let said = println!(rt; "{part}\nbut status {}, and", given.status);
-    said.map_err(|_| FaultWord::SinkFailed)?;
+    said.map_err(|_| FaultText::SinkFailed)?;
     let written = io::writer(rt).write_all(given.written.as_slice());
-    written.map_err(|_| FaultWord::SinkFailed)?;
+    written.map_err(|_| FaultText::SinkFailed)?;
     Ok(false)
 }

@@ -5,7 +5,7 @@
 
 use dns_name::Tally;
 use dns_tools::{
-    FaultWord, Nonblocking, check_words, check_zone, end, end_of, finish, given_words, open_file,
+    FaultText, Nonblocking, check_words, check_zone, end, end_of, finish, given_words, open_file,
 };
 use std::io::{self, BufWriter};
 use std::process::ExitCode;
@@ -17,13 +17,13 @@ fn main(rt: HostRuntime) -> ExitCode {
 }
 
 // Checks the zone that the arguments name, writes the report, and returns the exit status.
-fn check<R: Env + Files + Print + Clock + AllocGlobal>(rt: &R) -> Result<u8, FaultWord> {
+fn check<R: Env + Files + Print + Clock + AllocGlobal>(rt: &R) -> Result<u8, FaultText> {
     let alloc = rt.alloc();
     let words = given_words(rt)?;
     let words = check_words(alloc, words.as_slice())?;
     let mut source = Tally::new(open_file(rt, words.file)?);
     let output = BufWriter::new(alloc, Nonblocking::new(io::writer(rt), rt));
-    let output = output.map_err(|_| FaultWord::NoMemory)?;
+    let output = output.map_err(|_| FaultText::NoMemory)?;
     let mut sink = Tally::new(output);
     let outcome = check_zone(alloc, &words.origin, words.flags, &mut source, &mut sink);
     let (outcome, _device) = finish(outcome, sink.into_inner());

@@ -3,7 +3,7 @@
 
 use dns_name::Tally;
 use dns_tools::{
-    FaultWord, Nonblocking, check_words, end, end_of, finish, given_words, list_faults, open_file,
+    FaultText, Nonblocking, check_words, end, end_of, finish, given_words, list_faults, open_file,
 };
 use std::io::{self, BufWriter};
 use std::process::ExitCode;
@@ -15,16 +15,16 @@ fn main(rt: HostRuntime) -> ExitCode {
 }
 
 // Lists the faults of the file that the arguments name, and returns the exit status.
-fn list<R: Env + Files + Print + Clock + AllocGlobal>(rt: &R) -> Result<u8, FaultWord> {
+fn list<R: Env + Files + Print + Clock + AllocGlobal>(rt: &R) -> Result<u8, FaultText> {
     let alloc = rt.alloc();
     let words = given_words(rt)?;
     let words = check_words(alloc, words.as_slice())?;
     if words.flags.quiet || words.flags.print {
-        return Err(FaultWord::Usage);
+        return Err(FaultText::Usage);
     }
     let mut source = Tally::new(open_file(rt, words.file)?);
     let output = BufWriter::new(alloc, Nonblocking::new(io::writer(rt), rt));
-    let output = output.map_err(|_| FaultWord::NoMemory)?;
+    let output = output.map_err(|_| FaultText::NoMemory)?;
     let mut sink = Tally::new(output);
     let outcome = list_faults(alloc, &words.origin, &mut source, &mut sink);
     let (outcome, _device) = finish(outcome, sink.into_inner());

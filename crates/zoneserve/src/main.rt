@@ -4,10 +4,10 @@
 //! datagrams or connections at the address ADDR.
 #![tactic(auto)]
 
-use dns_connections::{Places, serve_connections};
+use dns_connections::{Capacity, serve_connections};
 use dns_name::Tally;
 use dns_tools::{
-    Epoll, FaultWord, LoadFault, Nonblocking, Service, end, end_of, given_words, listener_at,
+    Epoll, FaultText, LoadFault, Nonblocking, Service, end, end_of, given_words, listener_at,
     load_zone, open_file, refuse, run_once, serve_datagrams, serve_words, socket_at,
     status_of_turns,
 };
@@ -26,7 +26,7 @@ fn main(rt: HostRuntime) -> ExitCode {
 }
 
 // Loads the zone that the arguments name, serves it, and returns the exit status.
-fn run<R, E: Print>(rt: &R, errors: &E) -> Result<u8, FaultWord>
+fn run<R, E: Print>(rt: &R, errors: &E) -> Result<u8, FaultText>
 where
     R: Env + Files + Input + Print + Eprint + Clock + AllocGlobal,
     R: Net<Listener = TcpListener, Stream = TcpStream>,
@@ -40,11 +40,11 @@ where
     match loaded {
         Ok(zone) => serve(rt, &zone, &words.service),
         Err(LoadFault::Refused(refusal)) => refuse(rt, errors, &refusal),
-        Err(LoadFault::Stopped(stop)) => Err(FaultWord::from(stop)),
+        Err(LoadFault::Stopped(stop)) => Err(FaultText::from(stop)),
     }
 }
 
-fn serve<R>(rt: &R, zone: &Zone, service: &Service<'_>) -> Result<u8, FaultWord>
+fn serve<R>(rt: &R, zone: &Zone, service: &Service<'_>) -> Result<u8, FaultText>
 where
     R: Input + Print + Eprint + Clock + AllocGlobal,
     R: Net<Listener = TcpListener, Stream = TcpStream>,
@@ -68,8 +68,8 @@ where
                 sockets,
                 *turns,
                 MOST_MESSAGES,
-                Places::One,
-                || Ok::<(), FaultWord>(()),
+                Capacity::One,
+                || Ok::<(), FaultText>(()),
             )?
             .finish()
         }

@@ -7,10 +7,10 @@
 #![tactic(auto)]
 
 use dns_answer::Limit;
-use dns_connections::{Places, serve_connections};
+use dns_connections::{Capacity, serve_connections};
 use dns_name::Tally;
 use dns_tools::{
-    Epoll, FaultWord, LoadFault, SocketWords, Watch, end, given_listener, given_socket,
+    Epoll, FaultText, LoadFault, SocketWords, Watch, end, given_listener, given_socket,
     given_words, load_zone, open_file, refuse, say_serving, serve_datagrams, socket_words,
     status_of_turns,
 };
@@ -31,7 +31,7 @@ fn run<R, I: AsFd, O: AsRawFd, E: Print>(
     given: &I,
     output: &O,
     errors: &E,
-) -> Result<u8, FaultWord>
+) -> Result<u8, FaultText>
 where
     R: Env + Files + Print + Eprint + Clock + Net + AllocGlobal,
 {
@@ -43,7 +43,7 @@ where
     match loaded {
         Ok(zone) => serve(rt, given, output, &zone, &words),
         Err(LoadFault::Refused(refusal)) => refuse(rt, errors, &refusal),
-        Err(LoadFault::Stopped(stop)) => Err(FaultWord::from(stop)),
+        Err(LoadFault::Stopped(stop)) => Err(FaultText::from(stop)),
     }
 }
 
@@ -53,7 +53,7 @@ fn serve<R, I: AsFd, O: AsRawFd>(
     output: &O,
     zone: &Zone,
     words: &SocketWords<'_>,
-) -> Result<u8, FaultWord>
+) -> Result<u8, FaultText>
 where
     R: Print + Eprint + Clock + Net + AllocGlobal,
 {
@@ -68,8 +68,8 @@ where
         Limit::Tcp => {
             let sockets = Epoll::new(rt, given_listener(given)?, Some(&watch))?;
             let begin = || say_serving(rt, zone);
-            let (most, places) = (u64::MAX, Places::Many);
-            serve_connections(rt.alloc(), zone, sockets, turns, most, places, begin)?.finish()
+            let (most, capacity) = (u64::MAX, Capacity::Many);
+            serve_connections(rt.alloc(), zone, sockets, turns, most, capacity, begin)?.finish()
         }
     };
     Ok(status_of_turns(are_said))

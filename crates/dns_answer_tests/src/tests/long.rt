@@ -1,9 +1,9 @@
-//! Replies over TCP past the reach of pointers, and replies in one draft, one after another.
+//! Replies over TCP past the reach of pointers, and replies in one builder, one after another.
 
 use super::large::take_addresses;
 use super::replies::{Rest, check, replied, replied_to};
 use super::zones::long;
-use dns_answer::{Limit, TcpDraft, UdpDraft, respond_in};
+use dns_answer::{Limit, TcpBuilder, UdpBuilder, respond_in};
 use dns_samples_tests::{QUERY, Reply};
 use dns_zone::{Steps, Zone};
 use std::alloc::Global;
@@ -98,7 +98,7 @@ fn has_long(alloc: Global, zone: &Zone) -> bool {
 }
 
 // Questions with a long answer of each kind, a name error, a refusal, a short answer and a format
-// error. Each reply leaves more, or less, in the draft than the next one writes.
+// error. Each reply leaves more, or less, in the builder than the next one writes.
 const QUESTIONS: &[&[u8]] = &[
     SERVICES,
     b"\x03none\x07example\x00\x00\x01\x00\x01",
@@ -108,28 +108,33 @@ const QUESTIONS: &[&[u8]] = &[
     b"\x07example\x00",
 ];
 
-/// A draft for each limit.
+/// A builder for each limit.
 #[derive(Drop)]
-struct Drafts {
-    short: UdpDraft,
-    large: TcpDraft,
+struct ReplyBuilders {
+    short: UdpBuilder,
+    large: TcpBuilder,
 }
 
-// The reply that is made in a draft; empty if there is no reply.
-fn redrafted<'d>(zone: &Zone, drafts: &'d mut Drafts, limit: Limit, asked: &[u8]) -> &'d [u8] {
+// The reply that is made in a builder; empty if there is no reply.
+fn redrafted<'d>(
+    zone: &Zone,
+    builders: &'d mut ReplyBuilders,
+    limit: Limit,
+    asked: &[u8],
+) -> &'d [u8] {
     let mut steps = Steps::new(zone);
     let reply = match limit {
-        Limit::Udp => respond_in(&mut steps, asked, &mut drafts.short),
-        Limit::Tcp => respond_in(&mut steps, asked, &mut drafts.large),
+        Limit::Udp => respond_in(&mut steps, asked, &mut builders.short),
+        Limit::Tcp => respond_in(&mut steps, asked, &mut builders.large),
     };
     reply.unwrap_or(&[])
 }
 
-// Whether a draft that was used before makes the same reply as a new one.
+// Whether a builder that was used before makes the same reply as a new one.
 fn is_alike(
     alloc: Global,
     zone: &Zone,
-    drafts: &mut Drafts,
+    builders: &mut ReplyBuilders,
     limit: Limit,
     question: &[u8],
 ) -> bool {
@@ -137,21 +142,21 @@ fn is_alike(
         return false;
     };
     match replied(alloc, zone, limit, &asked) {
-        Some(wanted) => redrafted(zone, drafts, limit, &asked) == wanted.octets.as_slice(),
+        Some(wanted) => redrafted(zone, builders, limit, &asked) == wanted.octets.as_slice(),
         None => false,
     }
 }
 
 fn check_drafts(rt: &impl Abort, alloc: Global, zone: &Zone) {
-    let mut drafts = Drafts {
-        short: UdpDraft::new(),
-        large: TcpDraft::new(),
+    let mut builders = ReplyBuilders {
+        short: UdpBuilder::new(),
+        large: TcpBuilder::new(),
     };
     for &first in QUESTIONS {
         for &second in QUESTIONS {
             for question in [first, second] {
-                let is_short = is_alike(alloc, zone, &mut drafts, Limit::Udp, question);
-                let is_large = is_alike(alloc, zone, &mut drafts, Limit::Tcp, question);
+                let is_short = is_alike(alloc, zone, &mut builders, Limit::Udp, question);
+                let is_large = is_alike(alloc, zone, &mut builders, Limit::Tcp, question);
                 assert!(rt; is_short && is_large, "{question:?}");
             }
         }

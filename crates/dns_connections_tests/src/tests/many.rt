@@ -1,5 +1,5 @@
 use super::sockets::{Plan, Table};
-use dns_connections::{Places, serve_connections};
+use dns_connections::{Capacity, serve_connections};
 use dns_samples_tests::SMALL;
 use dns_zone::Zone;
 use dns_zone_tests::zone_of;
@@ -135,7 +135,7 @@ fn queue<A: Abort>(rt: &A, alloc: Global) -> Result<Table<'_, A>, AllocError> {
 fn check_crowd<A: Abort>(rt: &A, alloc: Global, zone: &Zone) -> Result<(), AllocError> {
     let table = crowd(rt, alloc)?;
     let begin = || Ok::<(), AllocError>(());
-    let table = serve_connections(alloc, zone, table, 510, u64::MAX, Places::Many, begin)?;
+    let table = serve_connections(alloc, zone, table, 510, u64::MAX, Capacity::Many, begin)?;
     assert!(rt; table.closed.len() == 510 && table.plans.is_empty() && table.refusals == 0);
     assert!(rt; table.connected == 0 && table.most == 257);
     // 22 peers fail, and the input of 31 others ends inside a frame.
@@ -151,7 +151,7 @@ const SENT: [usize; 6] = [0, 0, 94, 94, 94, 47];
 fn check_queue<A: Abort>(rt: &A, alloc: Global, zone: &Zone) -> Result<(), AllocError> {
     let table = queue(rt, alloc)?;
     let begin = || Ok::<(), AllocError>(());
-    let table = serve_connections(alloc, zone, table, 6, 2, Places::One, begin)?;
+    let table = serve_connections(alloc, zone, table, 6, 2, Capacity::One, begin)?;
     assert!(rt; table.closed.len() == 6 && table.connected == 0 && table.most == 1);
     for (closed, sent) in table.closed.iter().zip(SENT) {
         let (replies, _) = replies(alloc, &closed.received)?;
@@ -170,7 +170,7 @@ fn each_peer_gets_the_replies_to_its_own_queries(rt: HostRuntime) -> Result<(), 
 // Nothing is served if `begin` fails.
 fn check_begin<A: Abort>(rt: &A, alloc: Global, zone: &Zone) -> Result<(), AllocError> {
     let begin = || Err::<(), AllocError>(AllocError);
-    let table = serve_connections(alloc, zone, queue(rt, alloc)?, 6, 2, Places::One, begin);
+    let table = serve_connections(alloc, zone, queue(rt, alloc)?, 6, 2, Capacity::One, begin);
     assert!(rt; table.is_err());
     Ok(())
 }

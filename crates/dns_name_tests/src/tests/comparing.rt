@@ -51,11 +51,11 @@ const PUSHED: &[(Labels<'static>, &[u8], bool)] = &[
 fn is_pushed(labels: Labels<'_>, octets: &[u8], is_wildcard: bool) -> bool {
     let mut name = Name::root();
     let fit = push_all(&mut name, labels);
-    let lent = name.lent();
+    let borrowed = name.borrowed();
     fit && name.octets() == octets
-        && lent.octets() == octets
-        && lent.is_wildcard() == is_wildcard
-        && has_labels(&lent, labels)
+        && borrowed.octets() == octets
+        && borrowed.is_wildcard() == is_wildcard
+        && has_labels(&borrowed, labels)
         && name.labels().count() == labels.len()
 }
 
@@ -72,7 +72,7 @@ fn longest_name(rt: HostRuntime) {
     assert!(rt; push_all(&mut name, LONGEST));
     assert!(rt; name.octets().len() == 255);
     assert!(rt; !push_all(&mut name, &[b"e"]));
-    assert!(rt; has_labels(&name.lent(), LONGEST));
+    assert!(rt; has_labels(&name.borrowed(), LONGEST));
 }
 
 // Two names; whether they are equal; the same in any case; and the first at or below the second.
@@ -95,7 +95,7 @@ const PAIRS: &[(Labels<'static>, Labels<'static>, [bool; 3])] = &[
 fn compare(first: Labels<'_>, second: Labels<'_>, wanted: [bool; 3]) -> bool {
     let (mut a, mut b) = (Name::root(), Name::root());
     let fit = push_all(&mut a, first) && push_all(&mut b, second);
-    let (c, d) = (a.lent(), b.lent());
+    let (c, d) = (a.borrowed(), b.borrowed());
     fit && [a == b, a.same(&b), a.at_or_below(&b)] == wanted
         && [c == d, c.same(&d), c.at_or_below(&d)] == wanted
 }
@@ -110,16 +110,16 @@ fn compared_names(rt: HostRuntime) {
 // Whether a name is equal to each copy of it.
 fn is_copied(name: &Name) -> bool {
     let is_cloned = name.clone().map_or(false, |copy| *name == copy);
-    is_cloned && *name == name.copied() && *name == name.lent().to_name()
+    is_cloned && *name == name.copied() && *name == name.borrowed().to_name()
 }
 
 #[test]
 fn copies(rt: HostRuntime) {
     let mut name = Name::root();
     assert!(rt; push_all(&mut name, CAPITALS) && is_copied(&name));
-    assert!(rt; has_labels(&name.fold().lent(), WWW));
+    assert!(rt; has_labels(&name.fold().borrowed(), WWW));
     name.fold_in_place();
-    assert!(rt; has_labels(&name.lent(), WWW));
+    assert!(rt; has_labels(&name.borrowed(), WWW));
 }
 
 #[test]

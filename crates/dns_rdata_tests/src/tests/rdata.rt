@@ -205,12 +205,12 @@ fn has_target(alloc: Global, rtype: RType, octets: &[u8], wanted: Option<&[u8]>)
     let Ok(_) = Rdata::from_wire(alloc, rtype, octets) else {
         return false;
     };
-    let (target, lent) = (
+    let (target, borrowed) = (
         Rdata::target(rtype, octets),
-        Rdata::target_lent(rtype, octets),
+        Rdata::target_ref(rtype, octets),
     );
     target.as_ref().map(|name| name.octets()) == wanted
-        && lent.as_ref().map(|name| name.octets()) == wanted
+        && borrowed.as_ref().map(|name| name.octets()) == wanted
 }
 
 #[test]

@@ -1,7 +1,7 @@
 ghost use Rattle.std.specs.Prelude.{◌<◌, ◌-◌, ◌^◌};
 
 use dns_name::{Name, SinkFailed, Tally};
-use dns_rdata::{DataRoom, RType, Rdata, RdataFault, Word};
+use dns_rdata::{DataBuffers, RType, Rdata, RdataFault, Word};
 use std::alloc::Global;
 use std::io::Write;
 
@@ -9,7 +9,7 @@ use std::io::Write;
 /// buffers, so that anything left in the buffers by the first reading would show.
 pub(crate) fn read(alloc: Global, rtype: RType, words: &[Word<'_>]) -> Result<Rdata, RdataFault> {
     let origin = Name::read_text(b"Example.", &Name::root()).unwrap_or_default();
-    let mut room = DataRoom::new(alloc);
+    let mut room = DataBuffers::new(alloc);
     if let Ok(before) = Rdata::read_words_in(&mut room, rtype, words, &origin) {
         room.take_back(before);
     }

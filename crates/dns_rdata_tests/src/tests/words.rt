@@ -2,7 +2,7 @@ ghost use Rattle.std.specs.Prelude.{false, replicate};
 
 use crate::tests::said::{spell, word};
 use dns_name::Name;
-use dns_rdata::{DataRoom, RType, Rdata, RdataFault, Word, Words};
+use dns_rdata::{DataBuffers, RType, Rdata, RdataFault, Word, Words};
 use std::alloc::{AllocError, Global};
 use std::test::Fail;
 
@@ -180,7 +180,7 @@ const REPEATED: &[(RType, &[u8], usize, Result<&[u8], RdataFault>)] = &[
 
 // Whether repeated words, read with the buffers of `room`, spell these octets or have this fault.
 fn is_said(
-    room: &mut DataRoom,
+    room: &mut DataBuffers,
     rtype: RType,
     words: Repeated<'_>,
     wanted: Result<&[u8], RdataFault>,
@@ -197,7 +197,7 @@ fn is_said(
 
 #[test]
 fn words_that_are_no_list(rt: HostRuntime) {
-    let mut room = DataRoom::new(rt.alloc());
+    let mut room = DataBuffers::new(rt.alloc());
     for &(rtype, raw, left, wanted) in REPEATED {
         let words = Repeated { raw, left };
         assert!(rt; is_said(&mut room, rtype, words, wanted), "at {raw:?}");

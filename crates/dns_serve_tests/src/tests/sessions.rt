@@ -1,7 +1,7 @@
 ghost use Rattle.std.specs.Prelude.{◌<◌};
 
 use super::frames::{EMPTY, LONG, REFUSED, WWW, WWW_REPLY, ZEROS};
-use dns_answer::TcpDraft;
+use dns_answer::TcpBuilder;
 use dns_samples_tests::SMALL;
 use dns_serve::Session;
 use dns_zone::Zone;
@@ -30,17 +30,17 @@ fn sent(
 ) -> Result<Vec<u8>, AllocError>
     requires { 0 < piece }
 {
-    let (mut session, mut draft) = (Session::new(alloc, u64::MAX)?, TcpDraft::new());
+    let (mut session, mut builder) = (Session::new(alloc, u64::MAX)?, TcpBuilder::new());
     let mut sent = Vec::new(alloc);
     'pieces: for octets in stream.chunks(piece) {
-        let rest = session.take(zone, octets, &mut draft);
+        let rest = session.take(zone, octets, &mut builder);
         let has_room = rest.is_empty();
         send(
             &mut session,
             if has_room { most } else { usize::MAX },
             &mut sent,
         )?;
-        if !has_room && !session.take(zone, rest, &mut draft).is_empty() {
+        if !has_room && !session.take(zone, rest, &mut builder).is_empty() {
             sent.clear();
         }
     }
@@ -91,10 +91,10 @@ fn replies_do_not_depend_on_how_a_stream_is_cut(rt: HostRuntime) -> Result<(), F
 #[test]
 fn a_session_answers_no_more_messages_than_it_may(rt: HostRuntime) -> Result<(), Fail> {
     let zone = zone_of(rt.alloc(), b"example", SMALL, "")?;
-    let (mut session, mut draft) = (Session::new(rt.alloc(), 2)?, TcpDraft::new());
+    let (mut session, mut builder) = (Session::new(rt.alloc(), 2)?, TcpBuilder::new());
     let stream = [EMPTY, WWW, WWW].concat(rt.alloc())?;
-    let rest = session.take(&zone, &stream, &mut draft);
+    let rest = session.take(&zone, &stream, &mut builder);
     assert!(&rt; rest == WWW && session.left() == 0 && session.unsent() == WWW_REPLY);
-    assert!(&rt; session.take(&zone, WWW, &mut draft) == WWW && session.is_between_frames());
+    assert!(&rt; session.take(&zone, WWW, &mut builder) == WWW && session.is_between_frames());
     Ok(())
 }

@@ -1,6 +1,6 @@
 use super::frames::{EMPTY, LONG, REFUSED, WWW, WWW_REPLY, ZEROS};
 use crate::Mailbox;
-use dns_answer::UdpDraft;
+use dns_answer::UdpBuilder;
 use dns_samples_tests::SMALL;
 use dns_serve::{Datagrams, TurnFault, udp_turn, udp_turn_in};
 use dns_zone::Zone;
@@ -35,7 +35,7 @@ fn are_octets(datagrams: &[Vec<u8>], wanted: &[&[u8]]) -> bool {
 #[derive(Drop)]
 struct Room {
     octets: [u8; 512],
-    draft: UdpDraft,
+    builder: UdpBuilder,
 }
 
 // Whether a turn receives the datagram, sends this reply, or none, and no call fails.
@@ -52,7 +52,7 @@ fn is_answered(
     let (received, replies) = ([message(&datagram)], [message(reply)]);
     let (sent, _) = replies.split_at(usize::from(reply != EMPTY));
     let mut mailbox = Mailbox::new(alloc, message(&datagram), 9);
-    let turn = udp_turn_in(zone, &mut mailbox, &mut room.octets, &mut room.draft);
+    let turn = udp_turn_in(zone, &mut mailbox, &mut room.octets, &mut room.builder);
     (turn == Ok(reply != EMPTY))
         & are_octets(&mailbox.datagrams, &received)
         & are_octets(&mailbox.replies, sent)
@@ -62,7 +62,7 @@ fn is_answered(
 fn check_replies(rt: &impl Abort, alloc: Global, zone: &Zone) {
     let mut room = Room {
         octets: [0; 512],
-        draft: UdpDraft::new(),
+        builder: UdpBuilder::new(),
     };
     for &(datagram, reply) in DATAGRAMS {
         let is_answered = is_answered(alloc, zone, &mut room, datagram, reply);

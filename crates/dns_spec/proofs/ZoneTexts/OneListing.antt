@@ -1,5 +1,5 @@
 -- A text has at most one list of all faults, and one list of records beside it.
-use Rattle.dns_spec.proofs.Common.{◌≡◌, ℕ, ◌+◌, inl, inr, true, ◌==◌, nat_le, List, [], ◌∷◌, ◌++◌, length, drop, Option, Some, None, sym, ◌∙◌, ap, ap₂, subst, subst₂, codes, MatchBool, list_all, and_parts, DomainName, Octets, ResourceRecord, Field, Word, is_unknown_mark, word_fields_of, Entry, FileFault, bad_octet, bad_escape, unended_string, bad_parenthesis, unknown_directive, directive_words, bad_owner, no_owner, bad_ttl, other_class, bad_type, no_ttl, bad_data, too_many_records, too_long, no_memory, EntryMeaning, faulty, gives, EntryKind, no_words, directive, owned, unowned, kind_of, EntryGives, DataFaultIs, Place, PlacedEntry, EntryFault, HasFault, NumberIs, PlaceIs, FaultyWord, FaultyDirective, FaultyData, FaultyField, ForData, GivesOwn, LookBack, is_last, EntriesGive, AllFaults, placed_entries, place_after, before_type, record_words, fields, octets_equal, same_Some}
+use Rattle.dns_spec.proofs.Common.{◌≡◌, ℕ, ◌+◌, inl, inr, true, ◌==◌, nat_le, List, [], ◌∷◌, ◌++◌, length, drop, Option, Some, None, sym, ◌∙◌, ap, ap₂, subst, subst₂, codes, MatchBool, list_all, and_parts, DomainName, Octets, ResourceRecord, Field, Word, is_unknown_mark, word_fields_of, Entry, FileFault, bad_octet, bad_escape, unended_string, bad_parenthesis, unknown_directive, directive_words, bad_owner, no_owner, bad_ttl, other_class, bad_type, no_ttl, bad_data, too_many_records, too_long, no_memory, EntryMeaning, faulty, gives, EntryKind, no_words, directive, owned, unowned, kind_of, EntryGives, DataFaultIs, Span, PlacedEntry, EntryFault, HasFault, NumberIs, PlaceIs, FaultyWord, FaultyDirective, FaultyData, FaultyField, ForData, GivesOwn, LookBack, is_last, EntriesGive, AllFaults, placed_entries, place_after, before_type, record_words, fields, octets_equal, same_Some}
 use Rattle.dns_spec.specs.AllFaults.{FaultyArgument, FaultyTyped, FaultyUnknown, is_hex}
 use Rattle.dns_spec.specs.FileFaults.{unreadable}
 use Rattle.dns_spec.proofs.DataWords.OneData.{is_narrow, form_once, narrow_fields}
@@ -99,13 +99,13 @@ module _ (o : DomainName) (earlier : List Entry) where
   word_once s unreadable i j h k = absurd h
   word_once s no_memory i j h k = absurd h
 
-  by_word : (e : PlacedEntry) (fault : FileFault) (p q : Place)
+  by_word : (e : PlacedEntry) (fault : FileFault) (p q : Span)
       → (i : ℕ) × FaultyWord o earlier (kind_of e.entry) fault i × (p ≡ place_after i e)
       → (i : ℕ) × FaultyWord o earlier (kind_of e.entry) fault i × (q ≡ place_after i e) → p ≡ q
   by_word e fault p q h k =
       h.2 ∙ ap (λ i. place_after i e) (word_once (kind_of e.entry) fault h.0 k.0 h.1 k.1) ∙ sym k.2
 
-  place_once : (e : PlacedEntry) (fault : FileFault) (p q : Place)
+  place_once : (e : PlacedEntry) (fault : FileFault) (p q : Span)
       → PlaceIs o earlier e fault p → PlaceIs o earlier e fault q → p ≡ q
   place_once e bad_octet p q h k = h ∙ sym k
   place_once e bad_escape p q h k = h ∙ sym k

@@ -1,7 +1,7 @@
 //! Command lines: the program and its arguments, separated by commas.
 
 use dns_answer::Limit;
-use dns_tools::{FaultWord, Service, check_words, serve_words, socket_words};
+use dns_tools::{FaultText, Service, check_words, serve_words, socket_words};
 use std::alloc::{AllocError, Global};
 use std::test::Fail;
 
@@ -10,7 +10,7 @@ fn words_of<'a>(alloc: Global, line: &'a str) -> Result<Vec<&'a str>, AllocError
 }
 
 // Why a command line is refused; `None` if it is accepted.
-fn refusal(alloc: Global, line: &str) -> Result<Option<FaultWord>, Fail> {
+fn refusal(alloc: Global, line: &str) -> Result<Option<FaultText>, Fail> {
     let words = words_of(alloc, line)?;
     let Some((program, words)) = words.as_slice().split_first() else {
         return Err(Fail::new("an empty line"));
@@ -78,13 +78,13 @@ zonecheck,--quiet,a\\,zone";
 fn command_lines_that_are_refused(rt: HostRuntime) -> Result<(), Fail> {
     for line in USAGE.lines() {
         assert!(rt;
-            refusal(rt.alloc(), line)? == Some(FaultWord::Usage),
+            refusal(rt.alloc(), line)? == Some(FaultText::Usage),
             "{line}"
         );
     }
     for line in BAD_ORIGINS.lines() {
         assert!(rt;
-            refusal(rt.alloc(), line)? == Some(FaultWord::BadOrigin),
+            refusal(rt.alloc(), line)? == Some(FaultText::BadOrigin),
             "{line}"
         );
     }

@@ -1,5 +1,5 @@
 use dns_serve::{StreamFault, TurnFault};
-use dns_tools::{FaultWord, Stop, TurnWord, exit_status};
+use dns_tools::{FaultText, Stop, TurnFaultText, exit_status};
 use std::alloc::Global;
 use std::test::Fail;
 
@@ -12,16 +12,16 @@ fn statuses_of_an_engine(rt: HostRuntime) {
     }
 }
 
-const TEXTS: &[(FaultWord, &str)] = &[
-    (FaultWord::Usage, "usage"),
-    (FaultWord::BadOrigin, "bad origin"),
-    (FaultWord::NoMemory, "no memory"),
-    (FaultWord::SourceFailed, "R16"),
-    (FaultWord::SinkFailed, "P1"),
-    (FaultWord::NotBound, "bind"),
+const TEXTS: &[(FaultText, &str)] = &[
+    (FaultText::Usage, "usage"),
+    (FaultText::BadOrigin, "bad origin"),
+    (FaultText::NoMemory, "no memory"),
+    (FaultText::SourceFailed, "R16"),
+    (FaultText::SinkFailed, "P1"),
+    (FaultText::NotBound, "bind"),
 ];
 
-fn shows(alloc: Global, word: TurnWord, text: &str) -> Result<bool, Fail> {
+fn shows(alloc: Global, word: TurnFaultText, text: &str) -> Result<bool, Fail> {
     Ok(word.to_string(alloc)?.as_str() == text)
 }
 
@@ -33,7 +33,7 @@ fn texts_of_the_words(rt: HostRuntime) -> Result<(), Fail> {
     }
     assert!(rt; shows(rt.alloc(), TurnFault::ReceiveFailed.into(), "U1")?);
     assert!(rt; shows(rt.alloc(), TurnFault::SendFailed.into(), "U2")?);
-    assert!(rt; shows(rt.alloc(), TurnWord::NotAccepted, "accept")?);
+    assert!(rt; shows(rt.alloc(), TurnFaultText::NotAccepted, "accept")?);
     assert!(rt; shows(rt.alloc(), StreamFault::SourceFailed.into(), "S1")?);
     assert!(rt; shows(rt.alloc(), StreamFault::SinkFailed.into(), "S2")?);
     assert!(rt; shows(rt.alloc(), StreamFault::Cut.into(), "S3")?);
@@ -42,7 +42,7 @@ fn texts_of_the_words(rt: HostRuntime) -> Result<(), Fail> {
 
 #[test]
 fn the_word_of_a_stop(rt: HostRuntime) {
-    assert_eq!(rt; FaultWord::from(Stop::Memory), FaultWord::NoMemory);
-    assert_eq!(rt; FaultWord::from(Stop::Source), FaultWord::SourceFailed);
-    assert_eq!(rt; FaultWord::from(Stop::Sink), FaultWord::SinkFailed);
+    assert_eq!(rt; FaultText::from(Stop::Memory), FaultText::NoMemory);
+    assert_eq!(rt; FaultText::from(Stop::Source), FaultText::SourceFailed);
+    assert_eq!(rt; FaultText::from(Stop::Sink), FaultText::SinkFailed);
 }

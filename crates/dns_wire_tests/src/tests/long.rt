@@ -16,7 +16,7 @@ fn most_octets(rt: HostRuntime) -> Result<Vec<u8>, Fail>
 
 // Writes 64 records at `x.example`, each with one string of 255 octets.
 fn put_strings<H: SuffixHash>(rt: HostRuntime, writer: &mut Writer<'_, H>) -> bool
-    ensures { writer.new.page.limit ≡ writer.old.page.limit }
+    ensures { writer.new.builder.limit ≡ writer.old.builder.limit }
 {
     'strings: for first in 0..64_u8 {
         let mut string = [b'x'; 256];
@@ -32,7 +32,7 @@ fn put_strings<H: SuffixHash>(rt: HostRuntime, writer: &mut Writer<'_, H>) -> bo
 
 // Writes 17 services at `y.example`, with the targets `t10.example` to `t26.example`.
 fn put_services<H: SuffixHash>(rt: HostRuntime, writer: &mut Writer<'_, H>) -> bool
-    ensures { writer.new.page.limit ≡ writer.old.page.limit }
+    ensures { writer.new.builder.limit ≡ writer.old.builder.limit }
 {
     'services: for number in 10..27_u8 {
         let mut service = *b"\x00\x01\x00\x02\x00\x35\x03t10\x07example\x00";
@@ -48,7 +48,7 @@ fn put_services<H: SuffixHash>(rt: HostRuntime, writer: &mut Writer<'_, H>) -> b
 
 // Writes the addresses 198.51.100.1 to 198.51.100.64 of the target with this number.
 fn put_addresses<H: SuffixHash>(rt: HostRuntime, writer: &mut Writer<'_, H>, number: u8) -> bool
-    ensures { writer.new.page.limit ≡ writer.old.page.limit }
+    ensures { writer.new.builder.limit ≡ writer.old.builder.limit }
 {
     let mut owner = *b"t10.example";
     owner[1] = b'0' + number / 10;
@@ -63,7 +63,7 @@ fn put_addresses<H: SuffixHash>(rt: HostRuntime, writer: &mut Writer<'_, H>, num
 }
 
 fn put_targets<H: SuffixHash>(rt: HostRuntime, writer: &mut Writer<'_, H>) -> bool
-    ensures { writer.new.page.limit ≡ writer.old.page.limit }
+    ensures { writer.new.builder.limit ≡ writer.old.builder.limit }
 {
     'targets: for number in 10..27_u8 {
         if !put_addresses(rt, writer, number) {

@@ -61,7 +61,7 @@ pub(crate) fn offer<H: SuffixHash>(
     record: Record<'_>,
     has_room: bool,
 ) -> bool
-    ensures { writer.new.page.limit ≡ writer.old.page.limit }
+    ensures { writer.new.builder.limit ≡ writer.old.builder.limit }
 {
     let (owner, rtype, octets) = record;
     let ttl = if rtype == RType::SOA { 300 } else { 3600 };
@@ -85,7 +85,7 @@ fn offer_all<H: SuffixHash>(
     records: &[Record<'_>],
     has_room: bool,
 ) -> bool
-    ensures { writer.new.page.limit ≡ writer.old.page.limit }
+    ensures { writer.new.builder.limit ≡ writer.old.builder.limit }
 {
     'records: for record in records {
         if !offer(rt, writer, section, *record, has_room) {
@@ -102,7 +102,7 @@ fn offer_row<H: SuffixHash>(
     row: &Row<'_>,
     refused: &[Record<'_>],
 ) -> bool
-    ensures { writer.new.page.limit ≡ writer.old.page.limit }
+    ensures { writer.new.builder.limit ≡ writer.old.builder.limit }
 {
     offer_all(rt, writer, Section::Answer, refused, false)
         && offer_all(rt, writer, Section::Answer, row.answers, true)

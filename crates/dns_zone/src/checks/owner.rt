@@ -10,7 +10,7 @@ ghost use Rattle.dns_zone.specs.OwnerForm.{is_other_type, is_plain_type, is_serv
 ghost use Rattle.dns_zone.specs.ReportedForm.{reported_at};
 ghost use Rattle.dns_zone.specs.SetWalks.{sets_ended};
 
-use crate::checks::survey::Survey;
+use crate::checks::context::CheckContext;
 use crate::checks::target::LastTarget;
 use crate::order::key::{is_below, is_under};
 use crate::order::lookup::{has_type, of_type};
@@ -28,7 +28,7 @@ const MOST_SETS: usize = 32;
 /// A name of a zone, with its records.
 #[derive(Drop)]
 pub(crate) struct Owner<'a> {
-    pub(crate) survey: &'a Survey<'a>,
+    pub(crate) context: &'a CheckContext<'a>,
     pub(crate) name: &'a NameRef<'a>,
     pub(crate) key: &'a [u8],
     pub(crate) own: &'a [StoredRecord],
@@ -45,12 +45,12 @@ impl<'a> Model for Owner<'a> {
 
     ghost Value = { NameOfZone };
 
-    ghost view = { λ o. record { zone = o.survey.now; name = o.name.now } };
+    ghost view = { λ o. record { zone = o.context.now; name = o.name.now } };
 
-    ghost invariant = { λ o. IsOwner o.survey.now o.name.now o.own.now
+    ghost invariant = { λ o. IsOwner o.context.now o.name.now o.own.now
         × (o.key.now ≡ name_key o.name.now)
-        × (o.is_below_cut ≡ below_cut o.survey.now o.name.now)
-        × (o.stands_first ≡ is_origin o.survey.now o.name.now) };
+        × (o.is_below_cut ≡ below_cut o.context.now o.name.now)
+        × (o.stands_first ≡ is_origin o.context.now o.name.now) };
 }
 
 impl<'a> Owner<'a> {
@@ -65,7 +65,7 @@ impl<'a> Owner<'a> {
             self.stands_first && self.count_soa() > 1,
             !self.stands_first && self.owns_soa(),
             self.stands_first && !self.owns_ns(),
-            !self.own.is_empty() && !is_under(self.key, self.survey.key()),
+            !self.own.is_empty() && !is_under(self.key, self.context.key()),
             self.owns_cname() && self.owns_other_than_cname(),
             self.count_cname() > 1,
             self.has_other_ttls(),
@@ -91,7 +91,7 @@ impl<'a> Owner<'a> {
         {
             return false;
         }
-        is_under(self.key, self.survey.key()) && !self.has_other_ttls()
+        is_under(self.key, self.context.key()) && !self.has_other_ttls()
     }
 
     fn has_other_ttls(&self) -> bool
@@ -138,7 +138,7 @@ impl<'a> Owner<'a> {
             return (false, false, false);
         }
         let (is_alias, is_lost) = self
-            .survey
+            .context
             .target_faults(entry, self.name, owner_is_cut, last);
         if is_server {
             (is_alias, is_lost, false)
@@ -201,7 +201,7 @@ impl<'a> Owner<'a> {
     fn is_cut(&self) -> bool
         ensures { result ≡ is_cut self.now.zone self.now.name }
     {
-        self.owns_ns() && is_below(self.key, self.survey.key())
+        self.owns_ns() && is_below(self.key, self.context.key())
     }
 
     fn owns_other_than_cname(&self) -> bool

@@ -17,7 +17,7 @@ pub(crate) fn target(entry: &StoredRecord) -> Option<NameRef<'_>>
     ensures value { result ≡ target entry.now.rtype entry.now.rdata }
     ensures lower { IfSome result (λ m. folded m ≡ m) }
 {
-    Rdata::target_lent(entry.rtype, entry.rdata())
+    Rdata::target_ref(entry.rtype, entry.rdata())
 }
 
 /// The last target that was looked up, its key, and the index at which it was found among the
@@ -63,10 +63,10 @@ impl LastTarget {
     pub(crate) fn move_to(&mut self, name: &NameRef<'_>)
         ensures { self.new ≡ name.now }
     {
-        if self.name.lent() == *name {
+        if self.name.borrowed() == *name {
             return;
         }
-        self.key.move_to(&self.name.lent(), name);
+        self.key.move_to(&self.name.borrowed(), name);
         self.name.copy_from(name);
         self.place = self.next;
     }

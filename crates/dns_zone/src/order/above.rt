@@ -16,7 +16,7 @@ pub(crate) fn is_at_or_below(name: &NameRef<'_>, other: &NameRef<'_>) -> bool
 
 /// Whether the octets of a name end with the octets of another, both in lower case. If not, the
 /// name is not at or below the other.
-pub(crate) fn ends_alike(name: &NameRef<'_>, other: &NameRef<'_>) -> bool
+pub(crate) fn name_ends_with(name: &NameRef<'_>, other: &NameRef<'_>) -> bool
     requires name { folded name.now ≡ name.now }
     requires other { folded other.now ≡ other.now }
     ensures { OnFalse result (at_or_below name.now other.now ≡ false) }

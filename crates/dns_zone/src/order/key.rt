@@ -47,7 +47,7 @@ impl Key {
         ensures { result ≡ name_key name.now }
     {
         let mut key = Key::new();
-        key.move_to(&Name::root().lent(), name);
+        key.move_to(&Name::root().borrowed(), name);
         key
     }
 

@@ -4,10 +4,10 @@ ghost use Rattle.dns_spec.specs.Meaning.{most_records};
 ghost use Rattle.dns_spec.specs.ZonePrinted.{IsReadRecord};
 ghost use Rattle.dns_zone.specs.KeyForm.{name_key};
 ghost use Rattle.dns_zone.specs.OwnerKeysForm.{key_in};
-ghost use Rattle.dns_zone.specs.PlaceForm.{ArePlaces};
+ghost use Rattle.dns_zone.specs.SortKeyForm.{ArePlaces};
 
 use crate::order::key::Key;
-use crate::order::place::Place;
+use crate::order::sort_key::SortKey;
 use crate::store::stored::StoredRecord;
 use dns_name::NameRef;
 use std::alloc::{AllocError, Global};
@@ -29,7 +29,7 @@ pub(crate) fn keys_of<'a>(
     alloc: Global,
     origin: &'a NameRef<'a>,
     records: &'a [StoredRecord],
-) -> Result<(Vec<u8>, Vec<Place>), AllocError>
+) -> Result<(Vec<u8>, Vec<SortKey>), AllocError>
     requires { length records.now ≤ most_records }
     ensures origin { IfOk result (λ (keys, _). key_in keys.items 0 origin.now ≡ name_key origin.now) }
     ensures places { IfOk result (λ (keys, places).
@@ -37,16 +37,16 @@ pub(crate) fn keys_of<'a>(
     ensures read { IfOk result (λ _. All IsReadRecord records.now) }
 {
     let mut keys = Vec::new(alloc);
-    let mut places: Vec<Place> = Vec::with_capacity(alloc, records.len())?;
+    let mut places: Vec<SortKey> = Vec::with_capacity(alloc, records.len())?;
     let (first, mut key) = (Key::of(origin), Key::of(origin));
     keys.extend_from_slice(key.octets())?;
     let mut last = NameRef::new(origin.octets());
-    let mut place = Place::of(first.octets(), key.octets(), 0, 0);
+    let mut place = SortKey::of(first.octets(), key.octets(), 0, 0);
     'records: for each in records {
         let owner = each.owner();
         if owner != last {
             key.move_to(&last, &owner);
-            place = Place::of(first.octets(), key.octets(), 0, keys.len() as u32);
+            place = SortKey::of(first.octets(), key.octets(), 0, keys.len() as u32);
             keys.extend_from_slice(key.octets())?;
             last = owner;
         }

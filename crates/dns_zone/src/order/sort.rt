@@ -6,11 +6,11 @@ ghost use Rattle.dns_spec.specs.Records.{records_equal, distinct, sort_by, recor
 ghost use Rattle.dns_spec.specs.ZonePrinted.{IsReadRecord};
 ghost use Rattle.dns_zone.specs.KeyForm.{name_key};
 ghost use Rattle.dns_zone.specs.OwnerKeysForm.{key_in, AreKeyed};
-ghost use Rattle.dns_zone.specs.PlaceForm.{no_record, placed, AreApart, ArePlaces, AreSorted};
+ghost use Rattle.dns_zone.specs.SortKeyForm.{no_record, placed, AreApart, ArePlaces, AreSorted};
 ghost use Rattle.dns_zone.specs.ZoneForm.{AreOrdered};
 
 use crate::order::owner_keys::{OwnerKeys, keys_of};
-use crate::order::place::{Order, Place};
+use crate::order::sort_key::{Order, SortKey};
 use crate::store::stored::StoredRecord;
 use dns_name::NameRef;
 use std::alloc::{AllocError, Global};
@@ -45,7 +45,7 @@ pub(crate) fn sorted(
 fn sort_places(
     keys: &[u8],
     records: &[StoredRecord],
-    places: &mut Vec<Place>,
+    places: &mut Vec<SortKey>,
 ) -> Result<(), AllocError>
     requires { All IsReadRecord records.now }
     ensures { OnOk result ((o : Octets) → ArePlaces o keys.now records.now places.old.items
@@ -68,10 +68,10 @@ fn sort_places(
 fn gather(
     alloc: Global,
     records: &mut Vec<StoredRecord>,
-    places: &[Place],
+    places: &[SortKey],
 ) -> Result<(), AllocError>
     requires few { length records.old.items ≤ most_records }
-    requires inside { All (λ (p : Place). p.at < length records.old.items) places.now }
+    requires inside { All (λ (p : SortKey). p.at < length records.old.items) places.now }
     requires apart { AreApart places.now }
     requires fewer { length places.now ≤ length records.old.items }
     ensures { OnOk result (records.new.items
@@ -94,8 +94,8 @@ fn gather(
     Ok(())
 }
 
-fn starts_of(alloc: Global, places: &[Place]) -> Result<Vec<u32>, AllocError>
-    ensures { IfOk result (λ starts. starts.items ≡ map (λ (p : Place). p.start) places.now) }
+fn starts_of(alloc: Global, places: &[SortKey]) -> Result<Vec<u32>, AllocError>
+    ensures { IfOk result (λ starts. starts.items ≡ map (λ (p : SortKey). p.start) places.now) }
 {
     places.iter().map(|place| place.start).collect(alloc)
 }

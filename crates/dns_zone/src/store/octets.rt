@@ -41,7 +41,7 @@ impl FewOctets {
         }
     }
 
-    fn lent(&self) -> &[u8]
+    fn borrowed(&self) -> &[u8]
         ensures { result.now ≡ self.now }
     {
         self.octets.as_slice().split_at(self.count as usize).0
@@ -70,11 +70,11 @@ impl RecordOctets {
         Ok(RecordOctets::Many(octets))
     }
 
-    pub(crate) fn lent(&self) -> &[u8]
+    pub(crate) fn borrowed(&self) -> &[u8]
         ensures { result.now ≡ octets_in self.now }
     {
         match self {
-            RecordOctets::Few(few) => few.lent(),
+            RecordOctets::Few(few) => few.borrowed(),
             RecordOctets::Many(octets) => octets.as_slice(),
         }
     }

@@ -60,7 +60,7 @@ impl StoredRecord {
         ensures read { IsReadRecord self.now }
     {
         let count = self.owner_octets as usize;
-        NameRef::new(self.octets.lent().split_at(count).0)
+        NameRef::new(self.octets.borrowed().split_at(count).0)
     }
 
     pub(crate) fn rdata(&self) -> &[u8]
@@ -69,6 +69,6 @@ impl StoredRecord {
         ensures lower { lower_case self.now.rtype self.now.rdata ≡ self.now.rdata }
     {
         let count = self.owner_octets as usize;
-        self.octets.lent().split_at(count).1
+        self.octets.borrowed().split_at(count).1
     }
 }

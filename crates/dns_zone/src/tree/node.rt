@@ -9,13 +9,13 @@ ghost use Rattle.dns_spec.specs.Sets.{set_of, of_lowest_type};
 ghost use Rattle.dns_spec.specs.Tree.{exists};
 ghost use Rattle.dns_zone.specs.Nodes.{IsNode, IsSetOf};
 ghost use Rattle.dns_zone.specs.NodeForm.{node_at, IsZoneNode};
-ghost use Rattle.dns_zone.specs.TreeForm.{kids_at};
+ghost use Rattle.dns_zone.specs.TreeForm.{children_at};
 
 use crate::order::lookup::of_type;
 use crate::store::stored::StoredRecord;
-use crate::tree::kids::Kids;
+use crate::tree::children::Children;
 use crate::tree::row::RowNumber;
-use crate::tree::set::{RecordSet, lent_set};
+use crate::tree::set::{RecordSet, set_ref};
 use crate::tree::zone_tree::Tree;
 use dns_name::NameRef;
 use dns_rdata::RType;
@@ -64,7 +64,7 @@ impl<'z> Node<'z> {
         ensures rtype { IfSome result (λ s. s.rtype ≡ rtype.0) }
         ensures kept { IfSome result (IsSetOf self.now) }
     {
-        lent_set(of_type(self.own(), rtype))
+        set_ref(of_type(self.own(), rtype))
     }
 
     /// The node's name in lower case, borrowed from the zone; `None` if it owns no record.
@@ -89,11 +89,11 @@ impl<'z> Node<'z> {
     }
 
     /// The node's children.
-    pub(crate) fn kids(&self) -> Kids<'z>
+    pub(crate) fn children(&self) -> Children<'z>
         ensures at { IsZoneNode result.tree result.row }
         ensures node { node_at result.tree result.row ≡ self.now }
     {
-        self.tree.kids(self.row)
+        self.tree.children(self.row)
     }
 
     fn own(&self) -> &'z [StoredRecord]

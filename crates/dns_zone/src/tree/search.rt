@@ -1,15 +1,15 @@
-//! Finds a child by its label, by binary search. Labels of children are compared by `Kids` alone,
+//! Finds a child by its label, by binary search. Labels of children are compared by `Children` alone,
 //! which counts.
 ghost use Rattle.std.specs.Prelude.{◌≡◌, ◌+◌, ◌<◌, ◌≤◌, ◌↔◌, ◌∷◌, map, length, if◌then◌else◌, IsTrue, IsSome, IfSome, IsNone};
 ghost use Rattle.std.specs.Option.{is_some};
 ghost use Rattle.std.specs.Char.{to_ascii_lowercase};
 ghost use Rattle.dns_spec.specs.Tree.{exists};
 ghost use Rattle.dns_zone.specs.TreeForm.{row_label};
-ghost use Rattle.dns_zone.specs.NodeForm.{IsZoneNode, node_at, kid_rows, kid_label};
+ghost use Rattle.dns_zone.specs.NodeForm.{IsZoneNode, node_at, child_rows, child_label};
 ghost use Rattle.dns_spec.proofs.General.Elements.{Among};
 
+use crate::tree::children::Children;
 use crate::tree::counts::Counts;
-use crate::tree::kids::Kids;
 use crate::tree::label_key::LabelKey;
 use crate::tree::node::Node;
 use crate::tree::row::RowNumber;
@@ -43,25 +43,29 @@ impl<'z> Node<'z> {
         ensures compared { IfSome result (λ _. steps.old.comparisons < steps.new.comparisons) }
         ensures same_zone { steps.new.zone ≡ steps.old.zone }
     {
-        let kids = self.kids();
-        let row = kid_of(&kids, &label, &mut steps.counts)?;
-        Some(kids.visit(row, &mut steps.counts))
+        let children = self.children();
+        let row = child_of(&children, &label, &mut steps.counts)?;
+        Some(children.visit(row, &mut steps.counts))
     }
 }
 
 // The row of the child with this label, if that name exists. Each comparison of labels is counted.
 #[inline(always)]
-pub(crate) fn kid_of(kids: &Kids<'_>, label: &Label<'_>, counts: &mut Counts) -> Option<RowNumber>
-    requires at { IsZoneNode kids.now.tree kids.now.row }
+pub(crate) fn child_of(
+    children: &Children<'_>,
+    label: &Label<'_>,
+    counts: &mut Counts,
+) -> Option<RowNumber>
+    requires at { IsZoneNode children.now.tree children.now.row }
     requires comparisons { counts.old.comparisons ≤ 4294967278 }
 
     ensures child { IsSome result ↔ IsTrue
-        (exists kids.now.tree.zone
-        (label.now ∷ (node_at kids.now.tree kids.now.row).name)) }
-    ensures at { IfSome result (λ k. IsZoneNode kids.now.tree k.0) }
-    ensures node { IfSome result (λ k. node_at kids.now.tree k.0 ≡ record {
-      zone = kids.now.tree.zone;
-      name = map to_ascii_lowercase label.now ∷ (node_at kids.now.tree kids.now.row).name;
+        (exists children.now.tree.zone
+        (label.now ∷ (node_at children.now.tree children.now.row).name)) }
+    ensures at { IfSome result (λ k. IsZoneNode children.now.tree k.0) }
+    ensures node { IfSome result (λ k. node_at children.now.tree k.0 ≡ record {
+      zone = children.now.tree.zone;
+      name = map to_ascii_lowercase label.now ∷ (node_at children.now.tree children.now.row).name;
     }) }
 
     ensures rise { counts.old.comparisons ≤ counts.new.comparisons }
@@ -69,20 +73,20 @@ pub(crate) fn kid_of(kids: &Kids<'_>, label: &Label<'_>, counts: &mut Counts) ->
     ensures compared { IfSome result (λ _. counts.old.comparisons < counts.new.comparisons) }
     ensures visits { counts.new.visits ≡ counts.old.visits }
 {
-    let found = find(kids, label.octets(), counts)?;
-    Some(kids.row(found))
+    let found = find(children, label.octets(), counts)?;
+    Some(children.row(found))
 }
 
 // The index of the child with this label, whatever its case, if there is one. Each comparison is
 // counted; there are at most 17, since 100,000 children are fewer than 2 ^ 17.
-fn find(kids: &Kids<'_>, label: &[u8], counts: &mut Counts) -> Option<usize>
-    requires at { IsZoneNode kids.now.tree kids.now.row }
+fn find(children: &Children<'_>, label: &[u8], counts: &mut Counts) -> Option<usize>
+    requires at { IsZoneNode children.now.tree children.now.row }
     requires comparisons { counts.old.comparisons ≤ 4294967278 }
 
-    ensures found { IfSome result (λ i. (i < length (kid_rows kids.now))
-        × (kid_label kids.now i ≡ map to_ascii_lowercase label.now)) }
+    ensures found { IfSome result (λ i. (i < length (child_rows children.now))
+        × (child_label children.now i ≡ map to_ascii_lowercase label.now)) }
     ensures none { IsNone result → Among (map to_ascii_lowercase label.now)
-        (map (row_label kids.now.tree.zone.records) (kid_rows kids.now)) → ⊥ }
+        (map (row_label children.now.tree.zone.records) (child_rows children.now)) → ⊥ }
 
     ensures rise { counts.old.comparisons ≤ counts.new.comparisons }
     ensures bound { counts.new.comparisons ≤ counts.old.comparisons + 17 }
@@ -90,10 +94,10 @@ fn find(kids: &Kids<'_>, label: &[u8], counts: &mut Counts) -> Option<usize>
     ensures visits { counts.new.visits ≡ counts.old.visits }
 {
     let key = LabelKey::of(label);
-    let (mut low, mut high) = (0, kids.len());
+    let (mut low, mut high) = (0, children.len());
     'halves: while low < high {
         let middle = (low + high) / 2;
-        match kids.order(middle, &key, label, counts) {
+        match children.order(middle, &key, label, counts) {
             Ordering::Less => low = middle + 1,
             Ordering::Equal => return Some(middle),
             Ordering::Greater => high = middle,

@@ -22,13 +22,13 @@ pub struct RecordSet<'z> {
 
 impl<'z> Model for RecordSet<'z> {
     ghost use Rattle.dns_spec.specs.Sets.{RecordSet as LentSet};
-    ghost use Rattle.dns_zone.specs.SetForm.{lent, IsLent};
+    ghost use Rattle.dns_zone.specs.SetForm.{borrowed, IsBorrowed};
 
     ghost Value = { LentSet };
 
-    ghost view = { λ s. lent s.rtype.0 s.ttl s.records.now };
+    ghost view = { λ s. borrowed s.rtype.0 s.ttl s.records.now };
 
-    ghost invariant = { λ s. IsLent s.rtype.0 s.records.now };
+    ghost invariant = { λ s. IsBorrowed s.rtype.0 s.records.now };
 }
 
 impl<'z> RecordSet<'z> {
@@ -48,7 +48,7 @@ impl<'z> RecordSet<'z> {
 
 // The set of these records, which have one type. Its TTL is that of the first record; in a checked
 // zone all records of a set have the same TTL (RFC 2181 5.2). `None` if there are no records.
-pub(crate) fn lent_set<'z>(records: &'z [StoredRecord]) -> Option<RecordSet<'z>>
+pub(crate) fn set_ref<'z>(records: &'z [StoredRecord]) -> Option<RecordSet<'z>>
     requires { AreOfType records.now }
     ensures { result ≡ set_of records.now }
 {

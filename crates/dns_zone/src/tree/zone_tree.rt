@@ -1,5 +1,5 @@
 //! The tree of a zone's names. No other file reads its rows: a node is given its own name and
-//! records, and its children only as `Kids`, which count the comparisons of their labels.
+//! records, and its children only as `Children`, which count the comparisons of their labels.
 ghost use Rattle.std.specs.Prelude.{◌≡◌, IfOk};
 ghost use Rattle.std.specs.List.Sorted.{IsNonDecreasingBy};
 ghost use Rattle.dns_spec.specs.Records.{ResourceRecord, at};
@@ -8,7 +8,7 @@ ghost use Rattle.dns_zone.specs.NodeForm.{node_at, IsZoneNode, IsZoneTree};
 use crate::checked::CheckedZone;
 use crate::shared_slice::SharedSlice;
 use crate::store::stored::StoredRecord;
-use crate::tree::kids::Kids;
+use crate::tree::children::Children;
 use crate::tree::row::{Row, RowNumber};
 use crate::tree::{octets_of, rows_of};
 use dns_name::NameRef;
@@ -28,7 +28,7 @@ impl Tree {
         ensures zone { IfOk result (λ tree. tree.zone ≡ zone) }
         ensures tree { IfOk result IsZoneTree }
     {
-        let (rows, bounds) = rows_of(alloc, &zone.origin().lent(), zone.records())?;
+        let (rows, bounds) = rows_of(alloc, &zone.origin().borrowed(), zone.records())?;
         Ok(Tree { zone, rows, bounds })
     }
 
@@ -43,7 +43,7 @@ impl Tree {
         requires { IsZoneNode self.now row.0 }
         ensures { result ≡ (node_at self.now row.0).name }
     {
-        let row = &self.rows.lent()[row.0];
+        let row = &self.rows.borrowed()[row.0];
         NameRef::new(octets_of(self.zone.records(), row))
     }
 
@@ -53,18 +53,18 @@ impl Tree {
         ensures own { result.now ≡ at self.now.zone (node_at self.now row.0).name }
         ensures by_types { IsNonDecreasingBy (λ (r : ResourceRecord). r.rtype) result.now }
     {
-        let row = &self.rows.lent()[row.0];
+        let row = &self.rows.borrowed()[row.0];
         &self.zone.records()[row.first as usize..row.own_end as usize]
     }
 
     /// The children of the node of a row.
-    pub(crate) fn kids(&self, row: RowNumber) -> Kids<'_>
+    pub(crate) fn children(&self, row: RowNumber) -> Children<'_>
         requires { IsZoneNode self.now row.0 }
         ensures { result ≡ record { tree = self.now; row = row.0 } }
     {
-        let bounds = self.bounds.lent();
+        let bounds = self.bounds.borrowed();
         let start = bounds[row.0] as usize;
         let end = bounds[row.0 + 1] as usize;
-        Kids::new(self, row, start, &self.rows.lent()[start..end])
+        Children::new(self, row, start, &self.rows.borrowed()[start..end])
     }
 }

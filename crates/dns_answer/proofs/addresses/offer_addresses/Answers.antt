@@ -44,7 +44,7 @@ returns-clause-all g c =
 pub returns-then-is_full-clause-offers : goal.returns-then-is_full-clause-offers
 returns-then-is_full-clause-offers g c =
     Offers-rest c.args.steps.now.zone (side_takes c.args.side) c.args.set.now c.targets.i
-    c.args.draft.now c.targets.draft
+    c.args.builder.now c.targets.builder
     (sym c.if-is_full.ensures) c.targets.invariant.offers
 
 pub returns-then-is_full-clause-took : goal.returns-then-is_full-clause-took

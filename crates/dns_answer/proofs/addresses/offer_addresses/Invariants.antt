@@ -7,7 +7,7 @@ invariant-targets g l =
     let z = l.fn.steps.zone in
     let p = side_takes l.side in
     record {
-      offers : Offers l.fn.draft l.draft (side_items z p [] (targets_of_first l.i l.set));
+      offers : Offers l.fn.builder l.builder (side_items z p [] (targets_of_first l.i l.set));
       took : Took l.fn.steps l.steps (side_nodes z p (targets_of_first l.i l.set))
           (length (filter p (targets_of_first l.i l.set)));
       bound : Took l.fn.steps l.steps (127 * l.i) l.i;

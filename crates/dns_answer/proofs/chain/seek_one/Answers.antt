@@ -57,7 +57,7 @@ returns-then-not-is_alias g c =
           (ends-asked _ _ _ _ _ records set c.in-Some.ensures.kept shown) c.in-Records.ensures.took
           (subst (λ y. TookRest c.look_up.new.steps c.end_with.new.steps
           (ending y (positive (asked_item s set)))) zone (c.end_with.ensures.took s))
-          (Offers-nothing _) (rw zone at (c.end_with.ensures.ends s c.args.draft.now offered));
+          (Offers-nothing _) (rw zone at (c.end_with.ensures.ends s c.args.builder.now offered));
       own = λ r. sym (no-alias _ c.args.qtype (names_of c.args.earlier.now) _ _ records shown.0);
     }
 

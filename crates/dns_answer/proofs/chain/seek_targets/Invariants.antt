@@ -4,7 +4,7 @@ use Rattle.dns_answer.proofs.chain.seek_targets.Given as goal
 -- the result of seeking the names so far
 abbrev pub invariant-names : goal.invariant-names
 invariant-names g l = record {
-  led : Completes l.fn.draft l.draft l.fn.steps l.steps l.fn.qtype (l.fn.first.name ∷ [])
+  led : Completes l.fn.builder l.builder l.fn.steps l.steps l.fn.qtype (l.fn.first.name ∷ [])
       (names_of l.earlier.items) l.fn.target.name l.sought.name;
   may : MaySeek l.steps l.apex l.earlier.items l.sought;
   few : length l.earlier.items ≤ most_aliases;

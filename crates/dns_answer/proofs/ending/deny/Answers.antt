@@ -16,8 +16,8 @@ returns g c =
     let set = c.in-Some.soa in
     let kept = c.in-Some.ensures.kept.records in
     let here = ap (λ (v : ZoneNode). v.name) c.requires.apex.node in
-    let origin : c.lent.result ≡ z.origin =
-    c.lent.ensures.value ∙ c.origin.ensures.value
+    let origin : c.borrowed.result ≡ z.origin =
+    c.borrowed.ensures.value ∙ c.origin.ensures.value
     ∙ ap (λ (y : ZoneContents). y.origin) c.requires.zone in
     let item = soa-item z c.requires.apex.exists.built set c.min-ttl.result
     (sym (c.in-Some.ensures.set ∙ ap (λ n. set_of (rrset z n type_soa)) here))

@@ -1,5 +1,5 @@
 use Rattle.dns_answer.proofs.Common.{rules, true, false, [], sym, ap, subst, length, answer, filter, all_names, asked_item, side_items, side_nodes, Took}
-use Rattle.dns_answer.proofs.LongWays.{start_at_apex}
+use Rattle.dns_answer.proofs.LongPaths.{start_at_apex}
 use Rattle.dns_answer.proofs.TargetLaws.{reached_from_apex}
 use Rattle.dns_answer.proofs.Offering.{Offers-is}
 use Rattle.dns_answer.proofs.Endings.{Ends-positive, Offers-none}

@@ -1,6 +1,6 @@
 use Rattle.dns_answer.proofs.Common.{rules, ◌≡◌, true, false, subst, sym, at_or_below, Reaches, inside, not_inside, IsApex, refl, ap, ◌∙◌, false≢true, is_some, ZoneContents, rrset, type_ns, set_of, set_targets}
 use Rattle.dns_answer.proofs.Endings.{Ends-referred, cut-has_servers, start_at_cut, Offers-others, Took-referred}
-use Rattle.dns_answer.proofs.LongWays.{start_at_apex}
+use Rattle.dns_answer.proofs.LongPaths.{start_at_apex}
 use Rattle.dns_answer.proofs.TargetLaws.{reached_from_apex}
 use Rattle.dns_answer.proofs.Taking.{Took-none}
 use Rattle.dns_answer.proofs.ending.refer.Goals as goal
@@ -56,7 +56,7 @@ returns-else-not-are_all_inside-clause-ends g c =
     let set = c.in-Some.ensures in
     let first = c.offer_addresses-are_all_inside in
     let named = c.in-Some-owner.ensures.name in
-    let others = Offers-others c.args.steps.now.zone c.in-Some-owner.owner first.new.draft
+    let others = Offers-others c.args.steps.now.zone c.in-Some-owner.owner first.new.builder
     (set_targets c.in-Some.servers) _ first.ensures.all c.if-not-are_all_inside.false in
     Ends-referred _ _ c.in-Some.servers c.requires.cut.1.zone set.set set.rtype set.kept
     (rw (named, c.ttl.ensures) at c.offer.ensures)

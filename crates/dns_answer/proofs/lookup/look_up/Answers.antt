@@ -1,4 +1,4 @@
-use Rattle.dns_answer.proofs.LongWays.{start_at_apex}
+use Rattle.dns_answer.proofs.LongPaths.{start_at_apex}
 use Rattle.dns_answer.proofs.lookup.look_up.Goals as goal
 
 pub walk-requires-clause-start : goal.walk-requires-clause-start

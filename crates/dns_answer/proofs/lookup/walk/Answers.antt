@@ -1,6 +1,6 @@
 use Rattle.dns_answer.proofs.Common.{rules, ◌≡◌, true, ◌-◌, refl, ◌∙◌, arith, false≢true, IsWireForm-wire, labels_of_spelled, ends_at_cuts}
-use Rattle.dns_answer.proofs.WaySteps.{missing-child, cut-at_child, there-at_child}
-use Rattle.dns_answer.proofs.LongWays.{cut-whole, missing-whole, start-deep, there-above, under-origin, label-before}
+use Rattle.dns_answer.proofs.PathSteps.{missing-child, cut-at_child, there-at_child}
+use Rattle.dns_answer.proofs.LongPaths.{cut-whole, missing-whole, start-deep, there-above, under-origin, label-before}
 use Rattle.dns_answer.proofs.lookup.walk.Goals as goal
 
 pub put_starts-requires-clause-form : goal.put_starts-requires-clause-form

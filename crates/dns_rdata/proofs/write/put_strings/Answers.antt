@@ -5,11 +5,11 @@ use Rattle.dns_rdata.proofs.write.put_strings.Goals as goal
 pub append_string-rest-requires-clause-string : goal.append_string-rest-requires-clause-string
 append_string-rest-requires-clause-string g c = grind (arith, string_begins, eqb-false)
 
-pub returns-in_err-make_room : goal.returns-in_err-make_room
-returns-in_err-make_room g c = record {
+pub returns-in_err-reserve : goal.returns-in_err-reserve
+returns-in_err-reserve g c = record {
   ok = search rules;
   err = OnErr-always c.from_residual.result
-      (held_begun _ _ _ _ _ _ c.strings.invariant.fills c.in_err-make_room.ensures.fills.err);
+      (held_begun _ _ _ _ _ _ c.strings.invariant.fills c.in_err-reserve.ensures.fills.err);
   counted = search rules;
 }
 
@@ -17,7 +17,7 @@ pub strings-preserved : goal.strings-preserved
 strings-preserved g c =
     let some = eqb-false _ _ (sym c.is_empty.ensures ∙ c.strings-test.true) in
     let held =
-    held_less _ _ _ _ _ _ _ c.strings.invariant.fills c.in_ok-make_room.ensures.fills.ok in
+    held_less _ _ _ _ _ _ _ c.strings.invariant.fills c.in_ok-reserve.ensures.fills.ok in
     record {
       all = ap (are_strings 0) c.append_string-rest.ensures.rest
           ∙ more_strings _ c.strings.invariant.all some;

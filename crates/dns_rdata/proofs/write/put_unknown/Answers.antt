@@ -5,11 +5,11 @@ use Rattle.dns_rdata.proofs.write.put_unknown.Goals as goal
 pub chunks-init : goal.chunks-init
 chunks-init g c = grind (arith, append_assoc, append-nil, held_before)
 
-pub returns-in_err-make_room-2 : goal.returns-in_err-make_room-2
-returns-in_err-make_room-2 g c = record {
+pub returns-in_err-reserve-2 : goal.returns-in_err-reserve-2
+returns-in_err-reserve-2 g c = record {
   ok = search rules;
-  err = OnErr-always c.from_residual-in_err-make_room-2.result
-      (held_begun _ _ _ _ _ _ c.chunks.invariant.fills c.in_err-make_room-2.ensures.fills.err);
+  err = OnErr-always c.from_residual-in_err-reserve-2.result
+      (held_begun _ _ _ _ _ _ c.chunks.invariant.fills c.in_err-reserve-2.ensures.fills.err);
   counted = search rules;
 }
 

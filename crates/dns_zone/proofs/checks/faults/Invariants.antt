@@ -4,5 +4,5 @@ use Rattle.dns_zone.proofs.checks.faults.Given as goal
 -- the faults of the names so far
 abbrev pub invariant-names : goal.invariant-names
 invariant-names l =
-    l.found.items ≡ flat_map (reported_at l.survey)
-    (map (owner_of l.survey) (take l.one-index l.one-items))
+    l.found.items ≡ flat_map (reported_at l.context)
+    (map (owner_of l.context) (take l.one-index l.one-items))

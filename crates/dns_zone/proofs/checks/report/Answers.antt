@@ -18,10 +18,10 @@ same_keys n m key other p q e f =
 pub invariant_of-owner : goal.invariant_of-owner
 invariant_of-owner c =
     let n = c.name-name.result in
-    let owner : IsOwner c.args.survey.now n c.own-own.result.now = grind arith in
+    let owner : IsOwner c.args.context.now n c.own-own.result.now = grind arith in
     let key : c.args.one.now.key.now ≡ name_key n = grind arith in
-    let cut : c.if-one-gt0.owner ≡ below_cut c.args.survey.now n = grind (arith, below_topmost) in
-    let origin : c.eq.result ≡ is_origin c.args.survey.now n = grind (arith, same_keys) in
+    let cut : c.if-one-gt0.owner ≡ below_cut c.args.context.now n = grind (arith, below_topmost) in
+    let origin : c.eq.result ≡ is_origin c.args.context.now n = grind (arith, same_keys) in
     (owner, key, cut, origin)
 
 pub returns : goal.returns

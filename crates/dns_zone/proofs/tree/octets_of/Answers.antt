@@ -1,5 +1,5 @@
 use Rattle.dns_zone.proofs.Common.{rules, ap, ◌∙◌, labels_of, IsWireForm-wire, row_octets, row_name}
-use Rattle.dns_zone.proofs.KidRows.{owner_at}
+use Rattle.dns_zone.proofs.ChildRows.{owner_at}
 use Rattle.dns_zone.proofs.tree.octets_of.Goals as goal
 
 pub returns-clause-octets : goal.returns-clause-octets

@@ -39,19 +39,19 @@ rows-preserved c =
     let o = c.args.origin.now in
     let rs = c.args.records.now in
     let rows = c.rows.rows.items in
-    let rows' = c.add_kids.new.rows.items in
+    let rows' = c.add_children.new.rows.items in
     let i = c.rows.number in
     let count : c.len.result ≡ length rows =
     c.len.ensures
     ∙ (let e : vec_len c.rows.rows ≡ length rows = omega (arith, c.rows.rows.ok.0) in e) in
     let count' : c.len-in-rows.result ≡ length rows' =
     c.len-in-rows.ensures
-    ∙ (let e : vec_len c.add_kids.new.rows ≡ length rows' =
-    omega (arith, c.add_kids.new.rows.ok.0) in e) in
+    ∙ (let e : vec_len c.add_children.new.rows ≡ length rows' =
+    omega (arith, c.add_children.new.rows.ok.0) in e) in
     let less : i < length rows =
     other_than i (length rows) c.rows.invariant.upto
     (λ e. c.if-number-len.false (sym e ∙ sym count)) in
     subst (λ (bs : List ℕ). Growing o rs rows' bs (i + 1))
     (sym (c.in_ok-push-3.ensures.items
     ∙ ap (λ (k : ℕ). c.rows.bounds.items ++ k ∷ []) (c.in_ok-to_u32.ensures ∙ count')))
-    (advance o rs rows c.rows.bounds.items i c.rows.invariant less rows' c.in_ok-add_kids.ensures)
+    (advance o rs rows c.rows.bounds.items i c.rows.invariant less rows' c.in_ok-add_children.ensures)

@@ -4,7 +4,7 @@ use Rattle.dns_rdata.proofs.PartsLoop.{walked, one_lowered, all_lowered}
 use Rattle.dns_rdata.proofs.rdata.Rdata.lowered.Goals as goal
 
 pub append_lowered-requires : goal.append_lowered-requires
-append_lowered-requires c = (walked _ _ _ c.parts.invariant.names c.in-Some.ensures.steps).lent
+append_lowered-requires c = (walked _ _ _ c.parts.invariant.names c.in-Some.ensures.steps).borrowed
 
 pub parts-preserved : goal.parts-preserved
 parts-preserved c =

@@ -18,11 +18,11 @@ returns-then-is_strings g c = Fills-same (ap (λ x. c.args.text.now ++ x)
 pub fields-init : goal.fields-init
 fields-init g c = search (rules, row_text, row_counted)
 
-pub returns-in_err-make_room : goal.returns-in_err-make_room
-returns-in_err-make_room g c = record {
+pub returns-in_err-reserve : goal.returns-in_err-reserve
+returns-in_err-reserve g c = record {
   ok = search rules;
   err = OnErr-always c.from_residual.result
-      (held_begun _ _ _ _ _ _ c.fields.invariant.fills c.in_err-make_room.ensures.fills.err);
+      (held_begun _ _ _ _ _ _ c.fields.invariant.fills c.in_err-reserve.ensures.fills.err);
   counted = search rules;
 }
 
@@ -37,7 +37,7 @@ append_field-rest-requires-clause-one g c =
 pub fields-preserved : goal.fields-preserved
 fields-preserved g c =
     let held =
-    held_less _ _ _ _ _ _ _ c.fields.invariant.fills c.in_ok-make_room.ensures.fills.ok in
+    held_less _ _ _ _ _ _ _ c.fields.invariant.fills c.in_ok-reserve.ensures.fills.ok in
     let counted = c.fields.invariant.counted_fields in
     record {
       cut = rw c.append_field-rest.ensures.rest

@@ -2,4 +2,4 @@ use Rattle.std.proofs.Common.{◌≡◌}
 use Rattle.dns_wire_tests.proofs.tests.long.put_targets.Given as goal
 
 abbrev pub invariant-targets : goal.invariant-targets
-invariant-targets g l = l.writer.page.limit ≡ l.initial.writer.page.limit
+invariant-targets g l = l.writer.builder.limit ≡ l.initial.writer.builder.limit

@@ -2,4 +2,4 @@ use Rattle.std.proofs.Common.{◌≡◌}
 use Rattle.dns_wire_tests.proofs.tests.written.offer_all.Given as goal
 
 abbrev pub invariant-records : goal.invariant-records
-invariant-records g l = l.writer.page.limit ≡ l.initial.writer.page.limit
+invariant-records g l = l.writer.builder.limit ≡ l.initial.writer.builder.limit

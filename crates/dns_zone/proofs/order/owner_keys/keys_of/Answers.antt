@@ -1,4 +1,4 @@
-use Rattle.dns_zone.proofs.Common.{rules, ◌≡◌, ◌≤◌, ◌<◌, length, ℕ, ◌+◌, List, [], ◌∷◌, ◌++◌, get_or, arith, refl, sym, ap, subst, ◌∙◌, inl, inr, ◌⊎◌, length-append, cases_lt, get_or_append_left, get_or_default, Octets, DomainName, ResourceRecord, IsReadRecord, All, All-nil, All-push, All-weaker, take_all, get_or-append_seam, All-more, names_equal-decides, labels_of_spelled, name_key, key_in, AreFronts, IsPlace, Place, placed}
+use Rattle.dns_zone.proofs.Common.{rules, ◌≡◌, ◌≤◌, ◌<◌, length, ℕ, ◌+◌, List, [], ◌∷◌, ◌++◌, get_or, arith, refl, sym, ap, subst, ◌∙◌, inl, inr, ◌⊎◌, length-append, cases_lt, get_or_append_left, get_or_default, Octets, DomainName, ResourceRecord, IsReadRecord, All, All-nil, All-push, All-weaker, take_all, get_or-append_seam, All-more, names_equal-decides, labels_of_spelled, name_key, key_in, AreFronts, IsPlace, SortKey, placed}
 use Rattle.dns_zone.proofs.OwnerKeys.{key_stays, key_added}
 use Rattle.dns_zone.proofs.order.owner_keys.keys_of.Goals as goal
 use Rattle.dns_zone.proofs.order.owner_keys.keys_of.Goals.{then-ne+in_ok-extend_from_slice-2, else-ne}
@@ -40,7 +40,7 @@ abbrev IsAt : Octets → ℕ → DomainName → Type 0
 IsAt keys start n = key_in keys start n ≡ name_key n
 
 -- the list of keys after the key of n was added to it, or found to be its last key
-record Added (origin old new key : Octets) (place : Place) (last n : DomainName) : Type 0 where
+record Added (origin old new key : Octets) (place : SortKey) (last n : DomainName) : Type 0 where
   pub key_is : key ≡ name_key n
   pub stays : (m : DomainName) (s : ℕ) → IsAt old s m → IsAt new s m
   pub at : IsAt new place.start n
@@ -48,7 +48,7 @@ record Added (origin old new key : Octets) (place : Place) (last n : DomainName)
   pub fits : length new ≤ length old + 255
   pub is : last ≡ n
 
-key_put : (origin old new key : Octets) (place : Place) (last n : DomainName) → key ≡ name_key n
+key_put : (origin old new key : Octets) (place : SortKey) (last n : DomainName) → key ≡ name_key n
     → new ≡ old ++ name_key n → place.start ≡ length old
     → AreFronts origin (name_key n) place.front place.next → last ≡ n
     → length (name_key n) ≤ 255 → Added origin old new key place last n
@@ -61,7 +61,7 @@ key_put origin old new key place last n k e f fronts g bound = rw (e, g) (record
   is = refl;
 })
 
-key_kept : (origin old new key : Octets) (place : Place) (last m n : DomainName)
+key_kept : (origin old new key : Octets) (place : SortKey) (last m n : DomainName)
     → key ≡ name_key m → new ≡ old → last ≡ m → n ≡ m → IsAt old place.start m
     → AreFronts origin (name_key m) place.front place.next → Added origin old new key place last n
 key_kept origin old new key place last m n k e g h at fronts = rw (e, g, h) (record {
@@ -73,18 +73,18 @@ key_kept origin old new key place last m n k e g h at fronts = rw (e, g, h) (rec
   is = refl;
 })
 
-at_pushed : (ps : List Place) (p : Place) → p.at ≡ length ps
-    → ((i : ℕ) (d : Place) → i < length ps → (get_or ps i d).at ≡ i)
-    → (i : ℕ) (d : Place) → i < length (ps ++ p ∷ []) → (get_or (ps ++ p ∷ []) i d).at ≡ i
+at_pushed : (ps : List SortKey) (p : SortKey) → p.at ≡ length ps
+    → ((i : ℕ) (d : SortKey) → i < length ps → (get_or ps i d).at ≡ i)
+    → (i : ℕ) (d : SortKey) → i < length (ps ++ p ∷ []) → (get_or (ps ++ p ∷ []) i d).at ≡ i
 at_pushed ps p e h i d l = go (cases_lt i (length ps))
   where
     go : (i < length ps) ⊎ (length ps ≤ i) → (get_or (ps ++ p ∷ []) i d).at ≡ i
     go (inl m) =
-        ap (λ (q : Place). q.at) (get_or_append_left ps (p ∷ []) d i m) ∙ h i d m
+        ap (λ (q : SortKey). q.at) (get_or_append_left ps (p ∷ []) d i m) ∙ h i d m
     go (inr m) =
         let is : i ≡ length ps = omega (arith, l, m, length-append ps (p ∷ [])) in
         ap (λ j. (get_or (ps ++ p ∷ []) j d).at) is
-        ∙ ap (λ (q : Place). q.at) (get_or-append_seam ps p [] d) ∙ e ∙ sym is
+        ∙ ap (λ (q : SortKey). q.at) (get_or-append_seam ps p [] d) ∙ e ∙ sym is
 
 pub records-preserved : goal.records-preserved
 records-preserved c =
@@ -111,19 +111,19 @@ records-preserved c =
           let fronts = fronts_are _ _ o (name_key n) _ _ (search rules) (search (rules, is))
           w.of-place-then-ne.ensures.fronts in
           key_put o old new key place last n is (search (rules, more)) (search rules)
-          (subst (λ (p : Place). AreFronts o (name_key n) p.front p.next) (sym w.place-is) fronts)
+          (subst (λ (p : SortKey). AreFronts o (name_key n) p.front p.next) (sym w.place-is) fronts)
           w.last-is (omega (arith, bound, ap length more))
       | else-ne w ↦
           let same : n ≡ c.records.last =
           (names_equal-decides n c.records.last).0 (search rules) in
           key_kept o old new key place last _ n (w.key-is ∙ inv.key) (search rules) w.last-is same
-          (subst (λ (p : Place). IsAt old p.start c.records.last) (sym w.place-is) inv.last)
-          (subst (λ (p : Place). AreFronts o (name_key c.records.last) p.front p.next)
+          (subst (λ (p : SortKey). IsAt old p.start c.records.last) (sym w.place-is) inv.last)
+          (subst (λ (p : SortKey). AreFronts o (name_key c.records.last) p.front p.next)
           (sym w.place-is) inv.fronts)
     ] in
     let fits = added.fits in
     let ps = c.records.places.items in
-    let pushed : Place = record {
+    let pushed : SortKey = record {
       front = place.front;
       next = place.next;
       at = c.len-in-records.result;
@@ -147,7 +147,7 @@ records-preserved c =
           added.fronts;
       origin = added.stays c.args.origin.now 0 inv.origin;
       count = ap length items ∙ length-append ps _ ∙ ap (λ j. j + 1) inv.count;
-      at = subst (λ qs. (i : ℕ) (d : Place) → i < length qs → (get_or qs i d).at ≡ i) (sym items)
+      at = subst (λ qs. (i : ℕ) (d : SortKey) → i < length qs → (get_or qs i d).at ≡ i) (sym items)
           (at_pushed ps pushed at inv.at);
       each = subst (All (IsPlace o new rs)) (sym items)
           (All-push (IsPlace o new rs) ps pushed (All-weaker (IsPlace o old rs) (IsPlace o new rs)

@@ -1,4 +1,4 @@
-use Rattle.dns_zone.proofs.Common.{◌≡◌, ℕ, ◌+◌, ◌*◌, ◌<◌, ◌≤◌, All, length, take, get_or, IsReadRecord, name_key, key_in, AreFronts, IsPlace, Place}
+use Rattle.dns_zone.proofs.Common.{◌≡◌, ℕ, ◌+◌, ◌*◌, ◌<◌, ◌≤◌, All, length, take, get_or, IsReadRecord, name_key, key_in, AreFronts, IsPlace, SortKey}
 use Rattle.dns_zone.proofs.order.owner_keys.keys_of.Given as goal
 
 -- the keys so far, and the last of them, with its numbers
@@ -9,7 +9,7 @@ invariant-records l = record {
   fronts : AreFronts (name_key l.origin) (name_key l.last) l.place.front l.place.next;
   origin : key_in l.keys.items 0 l.origin ≡ name_key l.origin;
   count : length l.places.items ≡ l.each-index;
-  at : (i : ℕ) (d : Place) → i < length l.places.items → (get_or l.places.items i d).at ≡ i;
+  at : (i : ℕ) (d : SortKey) → i < length l.places.items → (get_or l.places.items i d).at ≡ i;
   each : All (IsPlace (name_key l.origin) l.keys.items l.records) l.places.items;
   few : length l.keys.items ≤ 255 * (l.each-index + 1);
   read : All IsReadRecord (take l.each-index l.records);

@@ -1,5 +1,5 @@
 use Rattle.dns_zone.proofs.Common.{rules, arith, sym, subst, length, ◌≤◌, place_order, AreSorted}
-use Rattle.dns_zone.proofs.SortedPlaces.{are_sorted}
+use Rattle.dns_zone.proofs.SortedKeys.{are_sorted}
 use Rattle.std.proofs.lemmas.Fn.{dedup_same}
 use Rattle.std.specs.Ordering.{eq_by_cmp}
 use Rattle.dns_zone.proofs.order.sort.sort_places.Goals as goal

@@ -1,19 +1,19 @@
-use Rattle.dns_zone.proofs.Common.{◌≡◌, ◌<◌, ◌≤◌, ◌∙◌, ℕ, List, All, length, map, sym, ap, ap₂, subst, arith, length-map, get_or-map, Octets, ResourceRecord, IsReadRecord, record_order, sort_risen, rises_canonical, all_canonical, AreApart, AreOrdered, AreKeyed, ArePlaces, AreSorted, key_in, name_key, no_record, placed, Place}
+use Rattle.dns_zone.proofs.Common.{◌≡◌, ◌<◌, ◌≤◌, ◌∙◌, ℕ, List, All, length, map, sym, ap, ap₂, subst, arith, length-map, get_or-map, Octets, ResourceRecord, IsReadRecord, record_order, sort_risen, rises_canonical, all_canonical, AreApart, AreOrdered, AreKeyed, ArePlaces, AreSorted, key_in, name_key, no_record, placed, SortKey}
 use Rattle.dns_zone.proofs.Gathered.{no_place}
 use Rattle.dns_zone.proofs.order.sort.sorted.Goals as goal
 use Rattle.dns_zone.proofs.order.sort.sorted.Goals.{In_ok-sort_places, In_ok-gather}
 use Rattle.dns_zone.proofs.AtName.{canonical}
 
 -- records at sorted places, with the starts of their keys
-keyed : (keys : Octets) (rs ss : List ResourceRecord) (ps : List Place) (starts : List ℕ)
+keyed : (keys : Octets) (rs ss : List ResourceRecord) (ps : List SortKey) (starts : List ℕ)
     → AreSorted keys rs ps → ss ≡ map (placed rs no_record) ps
-    → starts ≡ map (λ (p : Place). p.start) ps → AreKeyed keys ss starts
+    → starts ≡ map (λ (p : SortKey). p.start) ps → AreKeyed keys ss starts
 keyed keys rs ss ps starts h e f = rw (e, f) (record {
-  count = length-map ps (λ (p : Place). p.start) ∙ sym (length-map ps (placed rs no_record));
+  count = length-map ps (λ (p : SortKey). p.start) ∙ sym (length-map ps (placed rs no_record));
   each = λ i r s l.
       let inside : i < length ps = omega (arith, l, length-map ps (placed rs no_record)) in
       let record_is = get_or-map (placed rs no_record) ps i no_place r inside in
-      let start_is = get_or-map (λ (p : Place). p.start) ps i no_place s inside in
+      let start_is = get_or-map (λ (p : SortKey). p.start) ps i no_place s inside in
       ap₂ (λ k (t : ResourceRecord). key_in keys k t.owner) start_is record_is
       ∙ h.key i no_place inside ∙ ap (λ (t : ResourceRecord). name_key t.owner) (sym record_is);
 })
@@ -22,7 +22,7 @@ module _ (c : In_ok-sort_places) where
   abbrev rs : List ResourceRecord
   rs = c.args.records.items
 
-  abbrev ps : List Place
+  abbrev ps : List SortKey
   ps = c.sort_places.new.places.items
 
   read : All IsReadRecord rs
@@ -44,7 +44,7 @@ module _ (c : In_ok-sort_places) where
 pub gather-requires-clause-inside : goal.gather-requires-clause-inside
 gather-requires-clause-inside c =
     let at = (goal.at.gather-requires-clause-inside c).In_ok-sort_places in
-    subst (All (λ (p : Place). p.at < length c.args.records.items)) (sym c.as_slice-4.ensures.value)
+    subst (All (λ (p : SortKey). p.at < length c.args.records.items)) (sym c.as_slice-4.ensures.value)
     (are_sorted at).inside
 
 pub gather-requires-clause-apart : goal.gather-requires-clause-apart
@@ -55,7 +55,7 @@ gather-requires-clause-apart c =
 pub gather-requires-clause-fewer : goal.gather-requires-clause-fewer
 gather-requires-clause-fewer c =
     let at = (goal.at.gather-requires-clause-fewer c).In_ok-sort_places in
-    subst (λ (qs : List Place). length qs ≤ length c.args.records.items)
+    subst (λ (qs : List SortKey). length qs ≤ length c.args.records.items)
     (sym c.as_slice-4.ensures.value) (are_sorted at).fewer
 
 gathered : (c : In_ok-gather) → c.gather.new.records.items
@@ -101,4 +101,4 @@ returns-clause-keyed c =
     keyed c.in_ok-keys.keys.items c.args.records.items c.gather.new.records.items
     (ps at.In_ok-sort_places) c.in_ok-starts.starts.items (are_sorted at.In_ok-sort_places)
     (gathered at.In_ok-gather)
-    (c.in_ok-starts.ensures ∙ ap (map (λ (p : Place). p.start)) c.as_slice-5.ensures.value)
+    (c.in_ok-starts.ensures ∙ ap (map (λ (p : SortKey). p.start)) c.as_slice-5.ensures.value)

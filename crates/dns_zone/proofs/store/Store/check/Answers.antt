@@ -21,7 +21,7 @@ invariant_of-result c =
     (c.in_ok-records.ensures.records ∙ ap canonical c.self.view_is) c.as_slice.ensures.value
     (c.in_ok-found.ensures
     ∙ ap (λ (o : DomainName). faults (record { origin = o; records = c.as_slice.result.now }))
-    c.lent-2.ensures.value) (omega (arith, c.in_ok-found.found.ok.0)) c.requires
+    c.borrowed-2.ensures.value) (omega (arith, c.in_ok-found.found.ok.0)) c.requires
     (subst (λ rs. length c.in_ok-records.records.items ≤ length rs)
     c.self.view_is c.in_ok-records.ensures.count)
     c.in_ok-records.ensures.in_order c.in_ok-records.ensures.each)

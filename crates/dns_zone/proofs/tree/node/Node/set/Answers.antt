@@ -2,8 +2,8 @@ use Rattle.dns_zone.proofs.Common.{rules, ◌==◌, sym, ap, ◌∙◌, subst, f
 use Rattle.dns_zone.proofs.NodeSets.{of_type_is, are_of_type, sets_kept}
 use Rattle.dns_zone.proofs.tree.node.Node.set.Goals as goal
 
-pub lent_set-requires : goal.lent_set-requires
-lent_set-requires c =
+pub set_ref-requires : goal.set_ref-requires
+set_ref-requires c =
     let z = c.args.self.now.zone in
     let n = c.args.self.now.name in
     let t = c.args.rtype.0 in
@@ -19,10 +19,10 @@ pub returns-clause-rtype : goal.returns-clause-rtype
 returns-clause-rtype c =
     let n = c.args.self.now in
     (sets_kept n.zone c.own.ensures.node.built n.name c.args.rtype.0 c.own.ensures.node.lower
-    c.lent_set.result (returns-clause-set c)).0
+    c.set_ref.result (returns-clause-set c)).0
 
 pub returns-clause-kept : goal.returns-clause-kept
 returns-clause-kept c =
     let n = c.args.self.now in
     (sets_kept n.zone c.own.ensures.node.built n.name c.args.rtype.0 c.own.ensures.node.lower
-    c.lent_set.result (returns-clause-set c)).1
+    c.set_ref.result (returns-clause-set c)).1

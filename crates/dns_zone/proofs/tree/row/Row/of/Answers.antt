@@ -1,5 +1,5 @@
 use Rattle.dns_zone.proofs.Common.{IsFront, IsPartitionedBy, List, ResourceRecord, arith, drop, length, row_octets, span, subst, sym, wire, ◌-◌, ◌<◌, ◌∙◌, ◌≡◌, ◌≤◌}
-use Rattle.dns_zone.proofs.KidRows.{is_under, owner_at}
+use Rattle.dns_zone.proofs.ChildRows.{is_under, owner_at}
 use Rattle.dns_zone.proofs.NameRow.{under_others, ends, reached}
 use Rattle.dns_zone.proofs.tree.row.Row.of.Goals as goal
 use Rattle.dns_zone.proofs.tree.row.Row.of.Goals.{After-octets-2}

@@ -1,5 +1,5 @@
 use Rattle.dns_zone.proofs.Common.{rules}
-use Rattle.dns_zone.proofs.GrowingKids.{row_is}
+use Rattle.dns_zone.proofs.GrowingChildren.{row_is}
 use Rattle.dns_zone.proofs.Existing.{origin-node}
 use Rattle.dns_zone.proofs.tree.steps.Steps.apex.Goals as goal
 

@@ -7,7 +7,7 @@ pub returns-clause-own : goal.returns-clause-own
 returns-clause-own c =
     let k = c.args.row.0 in
     ap₂ (λ (rows : List Row) (rs : List ResourceRecord).
-    span rs (row_at rows k).first (row_at rows k).own_end) c.lent.ensures c.records.ensures.records
+    span rs (row_at rows k).first (row_at rows k).own_end) c.borrowed.ensures c.records.ensures.records
     ∙ (is_row c.args.self.now k c.requires).own
 
 pub returns-clause-by_types : goal.returns-clause-by_types

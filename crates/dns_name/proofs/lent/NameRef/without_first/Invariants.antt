@@ -1,5 +1,0 @@
-use Rattle.dns_name.proofs.Common.{◌≡◌, drop}
-use Rattle.dns_name.proofs.lent.NameRef.without_first.Given as goal
-
-abbrev pub invariant-extra : goal.invariant-extra
-invariant-extra l = l.labels ≡ drop l.counter l.self

@@ -1,0 +1,140 @@
+//! The places of the suffixes of names after the question, found by a hash of the suffix (RFC 1035
+//! 4.1.4).
+ghost use Rattle.std.specs.Prelude.{◌≡◌, ◌-◌, ◌<◌, ◌≤◌, [], ◌∷◌, ◌++◌, length, take, IfSome, IsNone};
+ghost use Rattle.dns_wire.specs.Chains.{chain_of};
+ghost use Rattle.dns_wire.specs.Kept.{IsKept, SpellsSuffix, NoneSpelled};
+
+use crate::spelled::is_spelled;
+use arrayvec::ArrayVec;
+use std::marker::Model;
+
+// The number of chains of places: a suffix with number k is in chain k / 2 modulo `HEADS`.
+//
+// Whatever the hash, a chain contains suffixes of only four lengths, 64 octets apart, since six of
+// the seven bits that choose the chain are bits of the length. So it contains at most one suffix
+// for each 64 octets of a name, rounded up: at most 256 in the 16,384 octets that a pointer
+// reaches, plus one for each name there. A reply has about 82 names, so a suffix is compared by its
+// octets with at most about 82 suffixes of its length.
+const HEADS: usize = 128;
+
+// The place of a suffix; in `next`, the index, counted from 1, of the previous entry of the same
+// chain, or 0 for the chain's oldest entry; and the number of the suffix.
+#[derive(Clone, Copy, Default)]
+struct KeptPlace {
+    place: u16,
+    next: u16,
+    number: u32,
+}
+
+/// SuffixOffsets, each with the number of its suffix (`number_of`, a hash), in the order in which they
+/// were added. The octets of a suffix are only in the message.
+#[derive(Drop)]
+pub(crate) struct SuffixOffsets<const N: usize> {
+    // The index, counted from 1, of the newest entry of each chain; 0 for an empty chain.
+    heads: [u16; HEADS],
+    entries: ArrayVec<KeptPlace, N>,
+}
+
+impl<const N: usize> Model for SuffixOffsets<N> {
+    ghost use Rattle.std.specs.Prelude.{List};
+    ghost use Rattle.dns_wire.specs.Kept.{Kept};
+
+    ghost Value = { List Kept };
+
+    ghost use Rattle.std.specs.Prelude.{map};
+    ghost use Rattle.dns_wire.specs.Chains.{kept_in, AreChains};
+
+    ghost view = { λ p. map kept_in p.entries.items };
+
+    ghost invariant = { λ p. AreChains p.heads p.entries.items };
+}
+
+impl<const N: usize> SuffixOffsets<N> {
+    pub(crate) fn new() -> SuffixOffsets<N>
+        ensures { result ≡ [] }
+    {
+        SuffixOffsets {
+            heads: [0; HEADS],
+            entries: ArrayVec::new(),
+        }
+    }
+
+    pub(crate) fn len(&self) -> usize
+        ensures value { result ≡ length self.now }
+        ensures fits { result ≤ N }
+    {
+        self.entries.len()
+    }
+
+    /// Adds the place of a suffix with this number.
+    pub(crate) fn insert(&mut self, place: u16, number: u32)
+        requires few { N ≤ 8192 }
+        requires room { length self.old < N }
+        requires reached { place < 16384 }
+        ensures { self.new ≡ self.old ++ record { place = place; number = number } ∷ [] }
+    {
+        let next = self.heads[chain_of(number)];
+        self.entries.push(KeptPlace {
+            place,
+            next,
+            number,
+        });
+        self.heads[chain_of(number)] = self.entries.len() as u16;
+    }
+
+    /// Removes all but the first `count` places, as if the later ones had never been added.
+    pub(crate) fn take_back(&mut self, count: usize)
+        ensures { self.new ≡ take count self.old }
+    {
+        'places: while self.len() > count {
+            if let Some(newest) = self.entries.pop() {
+                self.heads[chain_of(newest.number)] = newest.next;
+            }
+        }
+    }
+
+    /// The newest of the places with this number at which the message spells the suffix.
+    pub(crate) fn find(&self, number: u32, message: &[u8], suffix: &[u8]) -> Option<u16>
+        ensures kept { IfSome result (λ place. IsKept self.now place number) }
+        ensures spelled { IfSome result (λ place. SpellsSuffix message.now place suffix.now) }
+        ensures reached { IfSome result (λ place. place < 16384) }
+        ensures none { IsNone result → NoneSpelled self.now number message.now suffix.now }
+    {
+        let mut newest = self.heads[chain_of(number)];
+        'chain: while newest > 0 {
+            // A reference: copying the entry would take half as long again.
+            let entry = &self.entries.as_slice()[usize::from(newest) - 1];
+            if entry.number == number && is_spelled(message, usize::from(entry.place), suffix) {
+                return Some(entry.place);
+            }
+            newest = entry.next;
+        }
+        None
+    }
+}
+
+// The chain of the suffixes with this number.
+fn chain_of(number: u32) -> usize
+    ensures chain { result ≡ chain_of number }
+    ensures low { result < 128 }
+{
+    (number / 2 % HEADS as u32) as usize
+}
+
+/// A hash of suffixes, below 1,024, always the same for the same octets. The highest of the hash's
+/// ten bits and the suffix's length choose the chain in which the suffix is looked for.
+///
+/// The message that is written does not depend on this hash.
+pub trait SuffixHash {
+    ghost use Rattle.std.specs.Prelude.{ℕ};
+    ghost use Rattle.dns_spec.specs.Names.{Octets};
+
+    /// The hash of each suffix.
+    ghost numbers: { Self → Octets → ℕ };
+
+    /// The hash of a suffix, given in its wire form.
+    fn head(&mut self, suffix: &[u8]) -> u16
+        ensures value { result ≡ numbers self.old suffix.now }
+        ensures low { result < 1024 }
+        ensures same { numbers self.new ≡ numbers self.old };
+}

@@ -1,6 +1,0 @@
-use Rattle.dns_zone.proofs.Common.{rules}
-use Rattle.dns_zone.proofs.PlaceOrder.{shared_key}
-use Rattle.dns_zone.proofs.order.place.Order.owner_order.Goals as goal
-
-pub returns-then-octets : goal.returns-then-octets
-returns-then-octets c = search (rules, shared_key)
