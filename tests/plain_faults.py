@@ -2,7 +2,7 @@
 """Prints all faults of a zone file as `zonefaults` does, `tests/plain_faults.py ORIGIN FILE`, slowly.
 
 It is written from the prose of the definitions (`EntryPlaces`, `AllFaults`), not from the programs, and uses only the
-standard library. It reads a file octet by octet (RFC 1035 5.1), and looks at all records for each check. The status is
+standard library. It reads a file token by token (RFC 1035 5.1), and looks at all records for each check. The status is
 0 without faults, 1 with faults, and 2 if the origin or the file can't be read.
 """
 import ipaddress
@@ -13,127 +13,61 @@ from pathlib import Path
 # Each type's number and the fields of its data: numbers of 2 or 4 octets (H, L), addresses (4, 6), names (n), one
 # string (s), one or more strings (t).
 TYPES = {"A": (1, "4"), "NS": (2, "n"), "CNAME": (5, "n"), "SOA": (6, "nnLLLLL"), "PTR": (12, "n"),
-         "HINFO": (13, "ss"),
-         "MX": (15, "Hn"), "TXT": (16, "t"), "AAAA": (28, "6"), "SRV": (33, "HHHn")}
+         "HINFO": (13, "ss"), "MX": (15, "Hn"), "TXT": (16, "t"), "AAAA": (28, "6"), "SRV": (33, "HHHn")}
 PIECES = dict(TYPES.values())
 WIDTHS = {"4": 4, "6": 16, "H": 2, "L": 4}
 NO_ZONE_TYPES = {0, 39, 41, 43, 46, 47, 48, 50, 51, *range(128, 256)}
-WORD = frozenset(set(range(33, 127)) - set(b'"();\\'))
-STRING = frozenset((set(range(32, 127)) | {9}) - set(b'"\\'))
 MOST_OCTETS, MOST_RECORDS, MOST_LISTED = 2 ** 24, 100_000, 1_000
 REMOVABLE = {1, 4, 10}
 INVALID = object()
 
 
-class Fault(Exception):
-    """A fault in a token. Its argument is the number of its R code (docs/CODES.md)."""
+# ---- entries and their tokens (RFC 1035 5.1)
 
+# An escape, and the octets of a string and of a word, of which some need an escape.
+ESCAPE = rb"\\(?:[01][0-9]{2}|2[0-4][0-9]|25[0-5]|[ -/:-~])"
+STRING, WORD = rb"(?:[\t !#-\[\]-~]|%s)*" % ESCAPE, rb"(?:[!#-'*-:<-\[\]-~]|%s)+" % ESCAPE
+TOKEN = re.compile(rb'(?P<blank>[ \t]+|;[^\n]*)|(?P<bracket>[()])|(?P<end>\r?\n)|"(?P<quoted>%s)"|(?P<word>%s)'
+                   % (STRING, WORD))
+LINE_END, CUT = re.compile(rb"\r?\n|\Z"), re.compile(rb"|\r|\\[0-9]{0,2}")
 
-# ---- tokens (RFC 1035 5.1)
-
-def escape_length(text, at):
-    """The length of an escape without its backslash, which is before `at`; 0 if the octets at `at` make no escape."""
-    if at >= len(text):
-        return 0
-    if 48 <= text[at] <= 57:
-        digits = text[at:at + 3]
-        return 3 if len(digits) == 3 and digits.isdigit() and int(digits) < 256 else 0
-    return 1 if 32 <= text[at] <= 126 else 0
-
-
-def run_end(text, at, alone):
-    """The end of the longest run from `at` on that consists of escapes and of octets in `alone`, which need no
-    escape."""
-    while at < len(text):
-        if text[at] == 92:
-            length = escape_length(text, at + 1)
-            if not length:
-                break
-            at += 1 + length
-        elif text[at] in alone:
-            at += 1
-        else:
-            break
-    return at
-
-
-def token(text, at):
-    """The kind, octets and end of the token that begins at `at`. Raises a fault if no token begins there."""
-    octet = text[at]
-    if octet in b" \t":
-        end = at
-        while end < len(text) and text[end] in b" \t":
-            end += 1
-        return "blank", None, end
-    if octet == 59:
-        end = text.find(b"\n", at)
-        return "comment", None, len(text) if end < 0 else end
-    if octet == 34:
-        end = run_end(text, at + 1, STRING)
-        if end < len(text) and text[end] == 34:
-            return "quoted", text[at + 1:end], end + 1
-        raise Fault(3 if end == len(text) or text[end] == 10 or text[end:end + 2] == b"\r\n" else 2 if text[end] == 92
-                    else 1)
-    if octet in b"()":
-        return chr(octet), None, at + 1
-    if octet == 10 or text[at:at + 2] == b"\r\n":
-        return "end", None, at + (1 if octet == 10 else 2)
-    end = run_end(text, at, WORD)
-    if end > at:
-        return "word", text[at:end], end
-    raise Fault(2 if octet == 92 else 1)
-
-
-# ---- entries and their places
 
 def place_of(text, at):
     """The place of the octet at `at`, which is empty at a line end and at the end of the text."""
-    return at, at if at == len(text) or text[at] == 10 or text[at:at + 2] == b"\r\n" else at + 1
+    return at, at if LINE_END.match(text, at) else at + 1
 
 
 def read_entry(text, past, begin):
-    """The words of the entry that begins at `begin`, each with its place; the place of its end; its lexical fault and
-    that fault's place, or None; and where the next entry begins, or None."""
-    at, words, is_open = begin, [], False
-
-    def stopped(code, place):
-        line_end = text.find(b"\n", place)
-        where = place_of(text + past, len(text)) if code == 15 else place_of(text, place)
-        return words, place, (code, where), len(text) if line_end < 0 else line_end + 1
-
-    while at < len(text):
-        try:
-            kind, raw, after = token(text, at)
-        except Fault as fault:
-            place = run_end(text, at + 1, STRING) if text[at] == 34 else at
-            is_cut = past and re.fullmatch(rb"|\r|\\[0-9]{0,2}", text[place:])
-            return stopped(15 if is_cut else fault.args[0], place)
-        if kind in "()" and (kind == "(") == is_open:
-            return stopped(4, at)
-        if kind == "end" and not is_open:
-            return words, at, None, after
-        if kind in ("word", "quoted"):
-            words.append((raw, kind == "quoted", (at, after)))
-        is_open = kind == "(" if kind in "()" else is_open
-        at = after
-    code = 15 if past else 4 if is_open else None
-    return words, at, code and (code, place_of(text + past, at)), None
+    """The words of the entry that begins at `begin`, each with its place; the place of its end; its lexical fault, a
+    number of an R code (docs/CODES.md), and that fault's place, or None; and where the next entry begins, or None."""
+    at, words, is_open, code = begin, [], False, None
+    while at < len(text) and not code:
+        found = TOKEN.match(text, at)
+        kind = found and found.lastgroup
+        if not found:
+            at = re.compile(STRING).match(text, at + 1).end() if text[at] == 34 else at
+            code = 3 if LINE_END.match(text, at) else 2 if text[at] == 92 else 1
+            code = 15 if past and CUT.fullmatch(text, at) else code
+        elif kind == "bracket" and (found[0] == b"(") == is_open:
+            code = 4
+        elif kind == "end" and not is_open:
+            return words, at, None, found.end()
+        else:
+            words += [(found[kind], kind == "quoted", found.span())] if kind in ("quoted", "word") else []
+            is_open ^= kind == "bracket"
+            at = found.end()
+    code = code or (15 if past else 4 if is_open else None)
+    if not code:
+        return words, at, None, None
+    place = place_of(text + past, len(text)) if code == 15 else place_of(text, at)
+    return words, at, (code, place), text.find(b"\n", at) + 1 or len(text)
 
 
 # ---- the meaning of tokens
 
 def unescaped(raw):
-    """The octets that a word spells, each with whether it was written without an escape."""
-    at, octets = 0, []
-    while at < len(raw):
-        if raw[at] != 92:
-            octets.append((raw[at], True))
-            at += 1
-        else:
-            length = escape_length(raw, at + 1)
-            octets.append((int(raw[at + 1:at + 4]) if length == 3 else raw[at + 1], False))
-            at += 1 + length
-    return octets
+    """The octets that a part of a word spells."""
+    return re.sub(ESCAPE, lambda one: bytes([int(one[0][1:])]) if len(one[0]) == 4 else one[0][1:], raw)
 
 
 def wire(name):
@@ -141,16 +75,10 @@ def wire(name):
 
 
 def labels_of(raw):
-    """The labels that a word spells, and whether it ends in a dot."""
-    labels, label, octets = [], b"", unescaped(raw)
-    for octet, alone in octets:
-        if octet == 46 and alone:
-            labels.append(label)
-            label = b""
-        else:
-            label += bytes([octet])
-    ends = octets[-1:] == [(46, True)]
-    return labels if ends else [*labels, label], ends
+    """The labels that a word spells, and whether it ends in a dot, which is not escaped."""
+    parts = re.sub(rb"(%s)|\." % ESCAPE, lambda found: found[1] or b"\n", raw).split(b"\n")
+    ends = len(parts) > 1 and not parts[-1]
+    return list(map(unescaped, parts[:-1] if ends else parts)), ends
 
 
 def name_of(word, origin):
@@ -193,7 +121,7 @@ def address_of(word, version):
 
 
 def string_of(word):
-    octets = bytes(octet for octet, _ in unescaped(word[0]))
+    octets = unescaped(word[0])
     return bytes([len(octets)]) + octets if len(octets) <= 255 else None
 
 
