@@ -6,7 +6,6 @@ import json
 import os
 import random
 import re
-import subprocess
 from concurrent.futures import ThreadPoolExecutor
 from functools import lru_cache
 
@@ -19,9 +18,13 @@ import dns.rrset
 import dns.zone
 import plain_faults as plain
 import pytest
-from servers import TOP, spent
+from servers import DATA, TOP, run, spent
 
-ZONE = TOP / "tests" / "data" / "served.zone"
+ZONE = DATA / "served.zone"
+# `pieces` are put into a query, and `words` into a zone file. `swept`: for each sweep, the most pieces of a text, and
+# the pieces. First they are octets that begin or end tokens, then parts of entries, then whole lines. `faulty`: an
+# entry for each fault and each form of it. Of some the fault is in a word, of some between words, of some at an end.
+TABLES = json.loads((DATA / "hostile.json").read_text())
 ORIGIN = (b"example",)
 slow = pytest.mark.slow
 NS, CNAME, SOA, SRV, ANY = 2, 5, 6, 33, 255
@@ -64,8 +67,8 @@ class Server:
         """The sets of the aliases that lead from a name, in order, and the last name. At most 16 aliases are
         followed."""
         sets = []
-        while kind not in (CNAME,
-                           ANY) and not self.cut(name) and (alias := self.set_at(self.source(name), CNAME, name)):
+        while kind not in (CNAME, ANY) and not self.cut(name) \
+                and (alias := self.set_at(self.source(name), CNAME, name)):
             sets.append(alias)
             led = alias[0].target
             if len(sets) == 17 or not led.is_subdomain(self.origin) or any(one.name == led for one in sets):
@@ -153,18 +156,13 @@ def reply(server, datagram, limit):
     if len(datagram) < 12 or datagram[2] & 0x80:
         return None
     number, flags = int.from_bytes(datagram[:2], "big"), 0x8000 | (datagram[2] & 0x79) << 8
-    if datagram[2] & 0x78:
-        return message(number, flags | 4, None, [])
     question = question_of(datagram)
-    if question is None:
-        return message(number, flags | 1, None, [])
+    if datagram[2] & 0x78 or question is None:
+        return message(number, flags | (4 if datagram[2] & 0x78 else 1), None, [])
     name, kind, rdclass = question
-    if rdclass != 1:
-        return message(number, flags | 5, question, [])
-    if kind in (0, 41) or 128 <= kind <= 254:
-        return message(number, flags | 4, question, [])
-    if not name.is_subdomain(server.origin):
-        return message(number, flags | 5, question, [])
+    is_of_no_data = kind in (0, 41) or 128 <= kind <= 254
+    if rdclass != 1 or is_of_no_data or not name.is_subdomain(server.origin):
+        return message(number, flags | (4 if rdclass == 1 and is_of_no_data else 5), question, [])
     sets, required, rcode, is_ours = server.sets(name, kind)
     kept = len(sets)
     while len(message(number, 0, question, sets[:kept])) > limit:
@@ -185,13 +183,8 @@ def queries(server):
     return [dns.message.make_query(name, kind, id=0x1234).to_wire() for name in names for kind in kinds]
 
 
-# Pieces that are put into a query, and into a zone file.
-PIECES = [b"\0", b"\300\14", b"a" * 63, b"\0\1\0\1", b"x" * 600, b"\1a\0", b"\0\0)\2\0\0\0\0\0\0\0"]
-WORDS = [b"(", b")", b'"', b"\\", b";", b"\r\n", b"\n", b" ", b"\n\n", b"@", b"*", b"$TTL 5\n", b"$ORIGIN x\n",
-         b"$x 1\n", b"\\# 1 0a",
-         b"TYPE65280", b"CH", b"IN", b"A", b"NS", b"CNAME", b"MX 10", b"192.0.2.1", b"::1", b"1h", b"0", b"2147483648",
-         b"\\065",
-         b"\\256", b"\xc3\xa4", b"\0", b"a.b.", b"..", b"w" * 64]
+def octets_of(texts):
+    return [text.encode("latin-1") for text in texts]
 
 
 def changed(chance, octets, pieces):
@@ -199,39 +192,35 @@ def changed(chance, octets, pieces):
     pieces or lines put in, or lines taken out."""
     for _ in range(chance.choice([0, 1, 1, 1, 2, 3])):
         at = chance.randrange(len(octets) + 1)
-        end, lines, line = min(len(octets), at
-                               + chance.randrange(1, 40)), octets.split(b"\n"), octets[:at].count(b"\n")
+        end, lines = min(len(octets), at + chance.randrange(1, 40)), octets.split(b"\n")
+        line = octets[:at].count(b"\n")
         words = re.split(rb"( +)", lines[line])
         words[chance.randrange(len(words))] = chance.choice(pieces)
+        before, after = octets[:at], octets[at + 1:]
         ways = [
-            octets[:at] + bytes([chance.choice([0, 1, 42, 63, 64, 65, 191, 192, 255, chance.randrange(256)])])
-            + octets[at + 1:],
-            octets[:at] + bytes([(octets[at:] or b" ")[0] ^ 1 << chance.randrange(8)]) + octets[at + 1:],
-            octets[:at] + chance.choice(pieces) + octets[at:],
-            octets[:at] + octets[end:],
-            octets[:at] + octets[at:end] * 2 + octets[end:],
-            octets[:at]]
+            before + bytes([chance.choice([0, 1, 42, 63, 64, 65, 191, 192, 255, chance.randrange(256)])]) + after,
+            before + bytes([(octets[at:] or b" ")[0] ^ 1 << chance.randrange(8)]) + after,
+            before + chance.choice(pieces) + octets[at:],
+            before + octets[end:],
+            before + octets[at:end] * 2 + octets[end:],
+            before]
         if len(lines) > 1:
-            ways += [b"\n".join(lines[:line] + lines[line + 1:]),
-                     b"\n".join([*lines[:line], chance.choice(lines), *lines[line:]]),
-                     b"\n".join([*lines[:line], b"".join(words), *lines[line + 1:]])]
+            ways += [b"\n".join(lines[:line] + more + lines[line + size:]) for more, size in (
+                ([], 1), ([chance.choice(lines)], 0), ([b"".join(words)], 1))]
         octets = chance.choice(ways)
     return octets
 
 
 @pytest.mark.parametrize("count", [20_000, pytest.param(1_000_000, marks=slow)])
 @pytest.mark.parametrize("words, limit", [([], 512), (["--tcp"], 65_535)], ids=["udp", "tcp"])
-def test_datagrams(programs, tmp_path, words, limit, count):
+def test_datagrams(programs, words, limit, count):
     """`zoneserve once` gives each of count/2 datagrams the reply of the plain server, octet for octet."""
     chance, server, replies = random.Random(limit), Server(ZONE.read_text()), 0
-    asked = queries(server)
-    datagrams = [changed(chance, chance.choice(asked), PIECES) for _ in range(count // 2)]
-    given = tmp_path / "given"
-    given.write_text("".join(datagram.hex() + "\n" for datagram in datagrams))
-    with given.open() as source:
-        run = subprocess.run([programs / "zoneserve", "once", *words, "example", ZONE], stdin=source,
-                             capture_output=True, check=True)
-    for datagram, line in zip(datagrams, run.stdout.decode().splitlines(), strict=True):
+    asked, pieces = queries(server), octets_of(TABLES["pieces"])
+    datagrams = [changed(chance, chance.choice(asked), pieces) for _ in range(count // 2)]
+    given = "".join(datagram.hex() + "\n" for datagram in datagrams)
+    said = run(programs / "zoneserve", "once", *words, "example", ZONE, input=given, check=True).stdout
+    for datagram, line in zip(datagrams, said.splitlines(), strict=True):
         wanted = reply(server, datagram, limit)
         replies += wanted is not None and len(wanted) > 12
         assert line == ("none" if wanted is None else wanted.hex()), datagram.hex()
@@ -239,6 +228,13 @@ def test_datagrams(programs, tmp_path, words, limit, count):
 
 
 # ---- zone files
+
+def said_of(text, file, *words):
+    """The output, the status and the errors of a program for a file with this text."""
+    file.write_bytes(text)
+    done = run(*words, file, text=False, timeout=20)
+    return done.stdout.decode("latin-1"), done.returncode, done.stderr
+
 
 def checked(text, zone):
     """The expected output of zonecheck for a file, its expected status, and the records if it is a zone without a
@@ -267,75 +263,55 @@ def printed(records):
                    for owner, kind, octets, ttl in inorder)
 
 
-# For each sweep, the most pieces of a text, and the pieces. First they are octets that begin or end tokens, then parts
-# of entries, then whole lines.
-SWEPT = [
-    (5, [b" ", b"\n", b"(", b")", b'"', b";", b"\\", b"1", b"a", b"\r"]),
-    (5, [b" ", b"\n", b"a ", b"B", b"1 ", b"IN ", b"A 1.2.3.4", b"$TTL ", b"$origin ", b"("]),
-    (4, [b"a 1 A 192.0.2.1\n", b"b A 192.0.2.1 ; x\n", b" A 192.0.2.2\r\n", b"@ 7 A 0.0.0.0\n", b"$TTL 5\n",
-         b"$ORIGIN a\n",
-         b"$ORIGIN .\n", b" 3 A (\n255.255.255.255 )\n", b"\\065\\.x IN type1 1.1.1.1\n", b"\n"]),
-]
 # The end that is added to each text. It has the SOA and NS records that a zone needs.
 END = b"\n$ORIGIN example.\n@ 1 SOA . . 1 1 1 1 1\n@ 1 NS .\n"
 
 
 def swept(fewer):
     """All texts of up to four or five pieces, or of `fewer` fewer; each as it is, and with END after it."""
-    for most, pieces in SWEPT:
+    for most, pieces in TABLES["swept"]:
         for count in range(most + 1 - fewer):
-            for chosen in itertools.product(pieces, repeat=count):
+            for chosen in itertools.product(octets_of(pieces), repeat=count):
                 yield b"".join(chosen)
                 yield b"".join(chosen) + END
 
 
-@pytest.mark.parametrize("fewer", [3, pytest.param(0, marks=slow)])
-def test_all_short_texts(programs, tmp_path, fewer):
+@pytest.mark.parametrize("fewer, least", [(3, 10), pytest.param(0, 1_000, marks=slow)])
+def test_all_short_texts(programs, tmp_path, fewer, least):
     """`zonecheck --print` writes for each text what the plain reader, checker and printer say."""
     def zones(share):
         place, texts = share
-        file, count = tmp_path / str(place), 0
+        count = 0
         for text in texts:
-            file.write_bytes(text)
-            run = subprocess.run([programs / "zonecheck", "--print", "example", file], capture_output=True, timeout=20)
             wanted, status, records = checked(text, ORIGIN)
             wanted = printed(records) if status == 0 else wanted
-            assert (run.stdout.decode("latin-1"), run.returncode, run.stderr) == (wanted, status, b""), text
+            words = programs / "zonecheck", "--print", "example"
+            assert said_of(text, tmp_path / str(place), *words) == (wanted, status, b""), text
             count += status == 0
         return count
 
     workers, texts = os.cpu_count(), list(swept(fewer))
     with ThreadPoolExecutor(workers) as pool:
-        assert sum(pool.map(zones, enumerate(texts[place::workers] for place in range(workers)))) >= (10 if fewer
-                                                                                                      else 1_000)
+        assert sum(pool.map(zones, enumerate(texts[place::workers] for place in range(workers)))) >= least
 
 
 @pytest.mark.parametrize("count", [500, pytest.param(100_000, marks=slow)])
 def test_zone_files(programs, tmp_path, count):
-    chance, file = random.Random(1), tmp_path / "zone"
+    chance, words = random.Random(1), octets_of(TABLES["words"])
     texts = [path.read_bytes() for path in [*sorted((TOP / "examples").glob("*.zone")), ZONE]]
     texts = [(text, re.search(rb"origin is (\S+?)\.?\n", text)) for text in texts]
     for _ in range(count):
         text, origin = chance.choice(texts)
         origin = origin[1].decode() if origin else "example"
-        text = changed(chance, text, WORDS)
-        file.write_bytes(text)
-        run = subprocess.run([programs / "zonecheck", origin, file], capture_output=True, timeout=20)
+        text = changed(chance, text, words)
         wanted, status, _ = checked(text, tuple(label.encode().lower() for label in origin.split(".")))
-        assert (run.stdout.decode("latin-1"), run.returncode, run.stderr) == (wanted, status, b""), (origin, text)
+        said = said_of(text, tmp_path / "zone", programs / "zonecheck", origin)
+        assert said == (wanted, status, b""), (origin, text)
 
 
 # ---- all faults of a file
 
 HEAD = b"$TTL 60\n@ SOA ns h 1 2 3 4 5\n@ NS ns\nns A 192.0.2.1\n"
-# An entry for each fault and each form of it. Of some the fault is in a word, of some between words, of some at an end.
-FAULTY = [
-    b"a A \x00\n", b"a TXT x\\\n", b'a TXT "x\n', b"a A ( 192.0.2.1 (\n", b")\n", b"a A (\n", b"$INCLUDE x\n",
-    b"$TTL 1h\n", b"$TTL\n", b"$TTL 5 6\n", b"$ORIGIN a..b\n", b'$ORIGIN "x"\n', b"a..b A 192.0.2.1\n", b'"a" A 192.0.2.1\n',
-    b"w" * 64 + b" A 192.0.2.1\n", b"a 1h A 192.0.2.1\n", b"a IN 010 A 192.0.2.1\n", b"a CH A 192.0.2.1\n",
-    b"a 5 CLASS2 A 192.0.2.1\n", b"a 5\n", b"a MXX 1\n", b"a TYPE41 \\# 0\n", b"a A 192.0.2.1 x\n", b"a MX x h\n",
-    b"a A 192.0.2.300\n", b"a AAAA ::x\n", b"a NS b..c\n", b"a TXT " + b"x" * 256 + b"\n", b"a TYPE65280 x\n",
-    b"a A \\# 1 00\n", b"a MX \\# 3 00 0\n", b"a CNAME b\na A 192.0.2.1\n", b" ; x\n 5 A 192.0.2.9\n"]
 
 
 def test_the_stored_run():
@@ -347,24 +323,24 @@ def test_the_stored_run():
 
 def faulty_texts():
     """The texts of tests/data with faults, as they are and after one another."""
-    cases = json.loads((TOP / "tests" / "data" / "faults.json").read_text())
-    lines = [row[2].encode("latin-1") + b"\n" for row in cases["lines"]]
-    yield from (row[-2].encode("latin-1") for row in (*cases["files"], *cases["reports"]))
+    cases = json.loads((DATA / "faults.json").read_text())
+    lines = octets_of(row[2] + "\n" for row in cases["lines"])
+    yield from octets_of(row[-2] for row in (*cases["files"], *cases["reports"]))
     for first, second in zip(lines, lines[1:] + lines[:1]):
         yield from (HEAD + first + second, second + HEAD + first)
 
 
 def pairs_of_faults(step):
-    """Each entry of FAULTY with each other one, in three ways."""
-    for first, second in list(itertools.product(FAULTY, FAULTY))[::step]:
+    """Each faulty entry with each other one, in three ways."""
+    for first, second in list(itertools.product(octets_of(TABLES["faulty"]), repeat=2))[::step]:
         yield from (HEAD + first + second, first + HEAD + second, HEAD + first + b" A 192.0.2.7\n" + second)
 
 
 def changed_texts(count):
-    files = [*sorted((TOP / "examples").glob("*.zone")), *sorted((TOP / "tests" / "data").glob("*.zone"))]
-    texts = [path.read_bytes() for path in files]
+    files = [*sorted((TOP / "examples").glob("*.zone")), *sorted(DATA.glob("*.zone"))]
+    texts, words = [path.read_bytes() for path in files], octets_of(TABLES["words"])
     chance = random.Random(2)
-    return (changed(chance, changed(chance, chance.choice(texts), WORDS), WORDS) for _ in range(count))
+    return (changed(chance, changed(chance, chance.choice(texts), words), words) for _ in range(count))
 
 
 @pytest.mark.parametrize("texts", [
@@ -373,12 +349,11 @@ def changed_texts(count):
     ids=["data", "pairs", "changed", "all pairs", "5,000 changed"])
 def test_all_faults(programs, tmp_path, texts):
     """`zonefaults` lists for each text the faults that the plain program finds."""
-    file, faulty = tmp_path / "zone", 0
+    faulty = 0
     for text in texts():
-        file.write_bytes(text)
-        run = subprocess.run([programs / "zonefaults", "example", file], capture_output=True, timeout=20)
         wanted = plain.report(text, ORIGIN)
-        assert (run.stdout.decode("latin-1"), run.returncode, run.stderr) == (wanted, int(wanted != ""), b""), text
+        said = said_of(text, tmp_path / "zone", programs / "zonefaults", "example")
+        assert said == (wanted, int(wanted != ""), b""), text
         faulty += wanted.count("\n") > 1
     assert faulty > 100
 
@@ -398,9 +373,9 @@ def broken_messages():
 
 def is_read(programs, octets):
     """Whether dnsmsg prints a message and ends with 0, or a fault from 1 to 6 and ends with 1."""
-    run = subprocess.run([programs / "dnsmsg"], input=octets.hex() + "\n", capture_output=True, text=True, timeout=20)
-    wanted = r"header (?s:.*)" if run.returncode == 0 else r"fault [1-6]\n"
-    return run.returncode in (0, 1) and re.fullmatch(wanted, run.stdout) and run.stderr == ""
+    done = run(programs / "dnsmsg", input=octets.hex() + "\n", timeout=20)
+    wanted = r"header (?s:.*)" if done.returncode == 0 else r"fault [1-6]\n"
+    return done.returncode in (0, 1) and re.fullmatch(wanted, done.stdout) and done.stderr == ""
 
 
 @pytest.mark.parametrize("step", [10, pytest.param(1, marks=slow)])
