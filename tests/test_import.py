@@ -16,6 +16,8 @@ from servers import TOP, run, spent
 sys.path.insert(0, str(TOP / "share" / "mitrehyssop"))
 DATA = TOP / "tests" / "data"
 # `means`: lines in BIND's form, and the records that they specify. `refused`: lines, and a part of the message.
+# `files`: files that can be included, the last three by random zones. `refuses`: why zoneimport refuses what BIND
+# accepts: a pattern of the fault, and the reason.
 CASES = json.loads((DATA / "import.json").read_text())
 HEAD = "$TTL 1m\n@ IN SOA ns h ( 1 1h 5m 2w ; a comment\n   1m )\n@ NS ns\n@ NS ns.example.net.\nns A 192.0.2.1\n"
 OWN = {"example. 60 IN SOA ns.example. h.example. 1 3600 300 1209600 60", "example. 60 IN NS ns.example.",
@@ -31,11 +33,7 @@ def imported(programs, tmp_path, monkeypatch):
     """Runs zoneimport in a folder with files that can be included. Returns its status and both outputs."""
     (tmp_path / "zones" / "folder").mkdir(parents=True)
     monkeypatch.chdir(tmp_path / "zones")
-    files = {"part": "a A 192.0.2.2\n  A 192.0.2.3\n", "folder/deep": "$ORIGIN x\na A 192.0.2.2\n",
-             "cycle": "$INCLUDE cycle2\n",
-             "cycle2": "$INCLUDE cycle\n", "../outside": "a A 192.0.2.2\n",
-             **{f"chain{number}": f"$INCLUDE chain{number + 1}\n" for number in range(12)}}
-    for name, text in files.items():
+    for name, text in CASES["files"].items():
         Path(name).write_text(text)
     Path("link").symlink_to("/etc/hostname")
     os.mkfifo("pipe")
@@ -195,12 +193,6 @@ class Grammar:
         return text if self.chance.random() < 0.9 else text.replace("\n", "\r\n")
 
 
-# Why zoneimport refuses what BIND accepts: a pattern of the fault, and the reason.
-REFUSES = {r"R11: .* does not read ": "a type that dnspython does not read",
-           r"R11: .*(?:not served|type of DNSSEC)": "a type of DNSSEC, or DNAME",
-           r"R11: the data is invalid for GPOS": "a position that is not a number (RFC 1712)",
-           r"R11: the data is invalid for EUI": "an address with an octet of one digit (RFC 7043)",
-           r"R09: ": "a TTL above 2147483647"}
 # What zoneimport accepts and BIND refuses: a CAA record whose mailbox is not a URL, and a NAPTR record with another
 # expression.
 ACCEPTS = re.compile(r"CAA \d+ iodef|NAPTR", re.I)
@@ -221,7 +213,7 @@ def differing_entries(seed, folder):
             break
         for line in refused | ours.keys():
             at = max(min(line - begin, 29), 0)
-            is_known = any(re.match(pattern, ours.get(line, "")) for pattern in REFUSES)
+            is_known = any(re.match(pattern, ours.get(line, "")) for pattern in CASES["refuses"])
             if line in ours and line not in refused and not is_known and theirs:
                 wrong.append(f"refused here, and not by BIND: {entries[at]!r}: {ours[line]}")
             if line in refused and line not in ours and not ACCEPTS.search(entries[at]):
@@ -253,9 +245,6 @@ def differing_zones(seed, folder):
     pytest.param(differing_zones, 2_000, 200, marks=pytest.mark.slow),
     pytest.param(differing_entries, 1_000, 5_000, marks=pytest.mark.slow)])
 def test_random_zones(imported, differing, count, least):
-    for name, text in (("inc1", "i1 A 192.0.2.7\n TXT \"x\"\n"), ("inc2", "$ORIGIN k\ni2 1h A 192.0.2.8\n$TTL 77\n"),
-                       ("inc3", ' TXT "of the one before"\n$INCLUDE inc1\n')):
-        Path(name).write_text(text)
     with concurrent.futures.ThreadPoolExecutor(2) as pool:
         results = list(pool.map(lambda seed: differing(seed, os.getcwd()), range(count)))
     assert [one for wrong, _ in results for one in wrong] == [] and sum(number for _, number in results) > least
