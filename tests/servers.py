@@ -38,14 +38,6 @@ def query(name, rtype="A", number=0x1234):
     return asked.to_wire()
 
 
-def questions():
-    """The rows of tests/data/questions: the name and type, the line of status and flags, and the records, sorted."""
-    text = (DATA / "questions").read_text()
-    blocks = [[line for line in block.split("\n") if line and not line.startswith("#")]
-              for block in text.split("\n\n")]
-    return [(block[0], block[1], sorted(map(str.lower, block[2:]))) for block in blocks if block]
-
-
 def run(*words, **how):
     """Runs a program, and returns its status and what it prints."""
     return subprocess.run([str(word) for word in words],
@@ -203,6 +195,13 @@ class Serving:
         rows = [line.split() for line in Path(f"/proc/net/{self.transport}").read_text().splitlines()[1:]]
         state = {"udp": "07", "tcp": "0A"}[self.transport]
         return any(row[1].endswith(f":{self.address[1]:04X}") and row[3] == state for row in rows)
+
+    def reply(self, message, seconds=2):
+        """The reply to a message over a new socket, or None."""
+        is_udp = self.transport == "udp"
+        with contextlib.suppress(OSError), (asking if is_udp else connected)(self.address, seconds) as client:
+            client.send(message if is_udp else framed(message))
+            return client.recv(65_535) if is_udp else frame_of(client)
 
     def end(self, seconds=6):
         """Closes the reading end of its output, which ends zonesocket, and kills it if it does not end. Returns its

@@ -2,6 +2,7 @@
 zonesocket, whose replies must be those of `zoneserve once --tcp`: streams cut in every way, slow readers, half-closes,
 limits, and ends."""
 import contextlib
+import json
 import os
 import random
 import re
@@ -16,12 +17,16 @@ from concurrent.futures import ThreadPoolExecutor
 from pathlib import Path
 
 import pytest
-from servers import (DATA, LIBEXEC, TOP, Serving, asking, asks, bound, connected, frame_of, framed, other, query,
-                     questions, run, until)
+from servers import (DATA, LIBEXEC, TOP, Serving, asking, asks, bound, connected, frame_of, framed, other, query, run,
+                     until)
 
 HERE, PORT, SOCKET_PORT, RESOLVER, BELOW = "127.0.0.1", 5399, 5398, 5397, "127.0.0.53"
 ADDRESS = (HERE, PORT)
 ZONE = DATA / "served.zone"
+# What is asked of that zone, and what has to come: the name and the type; the status and the flags; the records, each
+# after its section. They are compared in lower case, because kdig prints names so.
+QUESTIONS = [(asked, first, sorted(map(str.lower, records)))
+             for asked, first, records in json.loads((DATA / "questions.json").read_text())]
 QUESTION = query("www.example")
 
 
@@ -37,13 +42,6 @@ def resident(server):
     return int(re.search(r"VmRSS:\s+(\d+)", Path(f"/proc/{server.run.pid}/status").read_text())[1])
 
 
-def over_udp(message, seconds=2):
-    with asking(ADDRESS, seconds) as client:
-        client.send(message)
-        with contextlib.suppress(TimeoutError):
-            return client.recv(65_535)
-
-
 def recorded():
     """The queries and replies of zoneserve's stored run, but for the lines of input that are no queries."""
     run = TOP / "crates" / "zoneserve"
@@ -53,10 +51,10 @@ def recorded():
 
 def test_octet_for_octet(programs):
     zone = TOP / "examples" / "example.zone"
-    with zoneserve(programs, "udp", zone):
+    with zoneserve(programs, "udp", zone) as server:
         for asked, reply in recorded():
             wanted = None if reply == "none" else bytes.fromhex(reply)
-            assert over_udp(asked, 2 if wanted else 0.2) == wanted
+            assert server.reply(asked, 2 if wanted else 0.2) == wanted
     with zoneserve(programs, "tcp", zone), connected(ADDRESS) as client:
         client.sendall(b"".join(framed(asked) for asked, _ in recorded()))
         for _, reply in recorded():
@@ -64,8 +62,7 @@ def test_octet_for_octet(programs):
 
 
 def said_by(text):
-    """The output of dig or kdig in the form of that table. The records are in lower case, because kdig prints names
-    so."""
+    """The output of dig or kdig in the form of that table."""
     status, flags = re.search(r"status: (\w+)", text), re.search(r"[Ff]lags: ([\w ]*);", text)
     records, section = [], None
     for line in text.split("\n"):
@@ -90,7 +87,7 @@ WITHOUT_EDNS = ["+norec", "+noedns", "+tcp"]
 @pytest.mark.parametrize("transport, over", [("udp", "+notcp"), ("tcp", "+tcp")])
 def test_a_client(programs, client, words, transport, over):
     with zoneserve(programs, transport):
-        for question, first, records in questions():
+        for question, first, records in QUESTIONS:
             assert said_by(ask_by(client, *words, over, *question.split())) == (first, records), question
 
 
@@ -108,20 +105,17 @@ def test_questions_of_dig(programs):
         assert "status: FORMERR" in said and "+noedns" in said
 
 
-def test_truncation(programs):
-    with zoneserve(programs, "udp"):
-        reply = over_udp(query("many.example"))
-        assert reply[2] & 2 and reply[6:8] == b"\0\0"
-    with zoneserve(programs, "tcp"), connected(ADDRESS) as client:
-        client.sendall(framed(query("many.example")))
-        reply = frame_of(client)
-        assert not reply[2] & 2 and reply[6:8] == bytes([0, 40])
+@pytest.mark.parametrize("transport, flag, answers", [("udp", 2, 0), ("tcp", 0, 40)])
+def test_truncation(programs, transport, flag, answers):
+    with zoneserve(programs, transport) as server:
+        reply = server.reply(query("many.example"))
+        assert (reply[2] & 2, reply[6:8]) == (flag, bytes([0, answers]))
 
 
 @pytest.mark.parametrize("datagrams", [10_000, pytest.param(999_900, marks=pytest.mark.slow)])
 def test_memory_does_not_grow(programs, datagrams):
     with zoneserve(programs, "udp") as server, asking(ADDRESS) as client:
-        over_udp(QUESTION)
+        server.reply(QUESTION)
         before = resident(server)
         for _ in range(datagrams // 100):
             for _ in range(100):
@@ -130,8 +124,7 @@ def test_memory_does_not_grow(programs, datagrams):
         assert resident(server) <= before
     with zoneserve(programs, "tcp") as server:
         for number in range(datagrams // 100):
-            with connected(ADDRESS) as client:
-                assert asks(client, QUESTION)
+            assert server.reply(QUESTION)
             if number == 10:
                 before = resident(server)
         assert resident(server) <= before
@@ -163,11 +156,7 @@ def test_interrupted_calls(programs, interrupts):
         with zoneserve(programs, transport) as server:
             with connected(ADDRESS) if transport == "tcp" else contextlib.nullcontext(), interrupts(server.run):
                 pass
-            if transport == "udp":
-                assert over_udp(QUESTION)
-            else:
-                with connected(ADDRESS) as client:
-                    assert asks(client, QUESTION)
+            assert server.reply(QUESTION)
             server.run.send_signal(signal.SIGTERM)
             assert server.run.wait(timeout=5) == -signal.SIGTERM
         assert server.said == []
@@ -199,7 +188,7 @@ def test_interrupted_calls(programs, interrupts):
 @pytest.mark.peers("dnsperf")
 def test_dnsperf_loses_nothing(programs, tmp_path):
     asked = tmp_path / "asked"
-    asked.write_text("".join(f"{question}\n" for question, _, _ in questions()))
+    asked.write_text("".join(f"{question}\n" for question, _, _ in QUESTIONS))
     with zoneserve(programs, "udp"), zonesocket(programs):
         for words in [["-p", str(PORT)],
                       *(["-p", str(SOCKET_PORT), "-m", "tcp", "-c", str(count)] for count in (1, 100, 250))]:
@@ -297,6 +286,21 @@ def replies(programs, zone):
     return [b"" if line == "none" else framed(bytes.fromhex(line)) for line in said]
 
 
+@pytest.fixture
+def server(programs, zone):
+    """zonesocket with that zone, which must end well."""
+    with zonesocket(programs, zone, MANY) as server:
+        yield server
+        assert server.end()[0] == 0
+
+
+@pytest.fixture
+def connect():
+    """Makes this number of connections, which stay open until the end of the test."""
+    with contextlib.ExitStack() as stack:
+        yield lambda count: [stack.enter_context(connected(MANY, 15)) for _ in range(count)]
+
+
 def send_in_pieces(client, stream, chance, is_half_closed):
     most = chance.choice([1, 3, 100, 1_460, 70_000] if len(stream) < 2_000 else [1_460, 20_000, 70_000])
     with contextlib.suppress(OSError):
@@ -346,29 +350,25 @@ def one_connection(number, replies):
 
 
 @pytest.mark.parametrize("count", [600, pytest.param(10_000, marks=pytest.mark.slow)])
-def test_streams_cut_in_every_way(programs, zone, replies, count):
-    with zonesocket(programs, zone, MANY) as server, ThreadPoolExecutor(60) as pool:
+def test_streams_cut_in_every_way(server, replies, count):
+    with ThreadPoolExecutor(60) as pool:
         assert not [*filter(None, pool.map(lambda number: one_connection(number, replies), range(count)))]
-        assert server.end()[0] == 0
-        assert set(server.said) <= {"S1", "S2", "S3"}
+    assert set(server.end()[1]) <= {"S1", "S2", "S3"}
 
 
-def test_silent_and_slow_peers_end_after_ten_seconds(programs, zone):
-    with zonesocket(programs, zone, MANY) as server, contextlib.ExitStack() as stack:
-        def connect():
-            return stack.enter_context(connected(MANY, 15))
-        silent, half, drip, slow = (connect() for _ in range(4))
-        half.sendall(framed(QUESTION)[:9])
-        slow.setsockopt(socket.SOL_SOCKET, socket.SO_RCVBUF, 1 << 12)
-        slow.sendall(framed(LARGE) * 200)
-        begun = time.monotonic()
-        for octet in framed(QUESTION)[:9]:
-            drip.send(bytes([octet]))
-            time.sleep(0.9)
-            assert asks_at_once()
-        assert frame_of(silent) is None and frame_of(half) is None and frame_of(drip) is None
-        assert 9 < time.monotonic() - begun < 12.5
-        assert sorted(server.end()[1]) == ["S1", "S1", "S2"]
+def test_silent_and_slow_peers_end_after_ten_seconds(server, connect):
+    silent, half, drip, slow = connect(4)
+    half.sendall(framed(QUESTION)[:9])
+    slow.setsockopt(socket.SOL_SOCKET, socket.SO_RCVBUF, 1 << 12)
+    slow.sendall(framed(LARGE) * 200)
+    begun = time.monotonic()
+    for octet in framed(QUESTION)[:9]:
+        drip.send(bytes([octet]))
+        time.sleep(0.9)
+        assert asks_at_once()
+    assert frame_of(silent) is None and frame_of(half) is None and frame_of(drip) is None
+    assert 9 < time.monotonic() - begun < 12.5
+    assert sorted(server.end()[1]) == ["S1", "S1", "S2"]
 
 
 def asks_at_once():
@@ -378,35 +378,31 @@ def asks_at_once():
         return asks(client, QUESTION) and time.monotonic() - begun < 0.5
 
 
-def test_more_peers_than_places(programs, zone):
+def test_more_peers_than_places(server, connect):
     """The one whose progress is oldest ends; one that asks now is served now."""
-    with zonesocket(programs, zone, MANY) as server, contextlib.ExitStack() as stack:
-        peers = [stack.enter_context(connected(MANY, 5)) for _ in range(256)]
-        assert until(asks_at_once)
-        assert frame_of(peers[0]) is None
-        assert all(asks(peer, QUESTION) for peer in peers[-50:])
-        more = [stack.enter_context(connected(MANY, 5)) for _ in range(100)]
-        assert asks_at_once() and asks(more[-1], QUESTION)
-        assert server.end()[0] == 0
+    peers = connect(256)
+    assert until(asks_at_once)
+    assert frame_of(peers[0]) is None
+    assert all(asks(peer, QUESTION) for peer in peers[-50:])
+    more = connect(100)
+    assert asks_at_once() and asks(more[-1], QUESTION)
 
 
-def test_a_peer_that_resets(programs, zone):
-    with zonesocket(programs, zone, MANY) as server:
-        with connected(MANY) as other:
-            for _ in range(50):
-                client = connected(MANY)
-                client.sendall(framed(LARGE) * 5)
-                client.setsockopt(socket.SOL_SOCKET, socket.SO_LINGER, struct.pack("ii", 1, 0))
-                client.close()
-            assert asks(other, QUESTION) and asks_at_once()
-        assert server.end()[0] == 0
+def test_a_peer_that_resets(server, connect):
+    other, = connect(1)
+    for _ in range(50):
+        client, = connect(1)
+        client.sendall(framed(LARGE) * 5)
+        client.setsockopt(socket.SOL_SOCKET, socket.SO_LINGER, struct.pack("ii", 1, 0))
+        client.close()
+    assert asks(other, QUESTION) and asks_at_once()
 
 
-def test_few_descriptors(programs, zone):
+def test_few_descriptors(programs, zone, connect):
     """A connection that can't be accepted does not stop the others."""
     limit = lambda: resource.setrlimit(resource.RLIMIT_NOFILE, (20, 20))  # noqa: E731
-    with zonesocket(programs, zone, MANY, preexec_fn=limit) as server, contextlib.ExitStack() as stack:
-        peers = [stack.enter_context(connected(MANY)) for _ in range(30)]
+    with zonesocket(programs, zone, MANY, preexec_fn=limit) as server:
+        peers = connect(30)
         assert asks(peers[0], QUESTION)
         for peer in peers[1:20]:
             peer.close()
@@ -414,18 +410,17 @@ def test_few_descriptors(programs, zone):
         assert server.end()[0] == 0 and "accept" in server.said
 
 
-def test_end_on_request(programs, zone):
-    with zonesocket(programs, zone, MANY) as server, connected(MANY) as client, connected(MANY) as silent:
-        assert asks(client, QUESTION)
-        client.sendall(framed(QUESTION) * 100)
-        begun = time.monotonic()
-        server.run.stdout.close()
-        assert all(frame_of(client)[:2] == QUESTION[:2] for _ in range(100)) and frame_of(client) is None
-        assert frame_of(silent) is None
-        assert server.end() == (0, []) and time.monotonic() - begun < 4.5
-    with zonesocket(programs, zone, MANY, "udp") as server, asking(MANY) as client:
-        client.send(QUESTION)
-        assert client.recv(512)[:2] == QUESTION[:2]
+def test_end_on_request(programs, server, zone, connect):
+    client, silent = connect(2)
+    assert asks(client, QUESTION)
+    client.sendall(framed(QUESTION) * 100)
+    begun = time.monotonic()
+    server.run.stdout.close()
+    assert all(frame_of(client)[:2] == QUESTION[:2] for _ in range(100)) and frame_of(client) is None
+    assert frame_of(silent) is None
+    assert server.end() == (0, []) and time.monotonic() - begun < 4.5
+    with zonesocket(programs, zone, MANY, "udp") as server:
+        assert server.reply(QUESTION)[:2] == QUESTION[:2]
         begun = time.monotonic()
         assert server.end() == (0, []) and time.monotonic() - begun < 1
 
@@ -441,21 +436,16 @@ def test_a_file_or_a_terminal_never_ends_it(programs, zone, tmp_path):
 
 
 def test_sockets_that_are_not_served(programs, zone):
-    def said(given, transport):
-        done = run(programs / "zonesocket", transport, "1", "example", zone, stdin=given)
-        return done.returncode, done.stderr.strip()
     with contextlib.ExitStack() as stack:
-        udp, tcp = (stack.enter_context(bound(kind, MANY)) for kind in (socket.SOCK_DGRAM, socket.SOCK_STREAM))
-        peer = stack.enter_context(connected(MANY))
-        joined = stack.enter_context(asking(MANY))
-        fresh = stack.enter_context(socket.socket())
-        idle = stack.enter_context(bound(socket.SOCK_STREAM, ("127.0.0.1", 5390)))
+        enter = stack.enter_context
+        udp, tcp = (enter(bound(kind, MANY)) for kind in (socket.SOCK_DGRAM, socket.SOCK_STREAM))
+        idle = enter(bound(socket.SOCK_STREAM, ("127.0.0.1", 5390)))
         idle.shutdown(socket.SHUT_RDWR)
-        pair = stack.enter_context(socket.socketpair()[0])
-        rows = [(udp, "tcp"), (tcp, "udp"), (peer, "tcp"), (joined, "udp"), (fresh, "tcp"), (idle, "tcp"),
-                (pair, "tcp")]
+        rows = [(udp, "tcp"), (tcp, "udp"), (enter(connected(MANY)), "tcp"), (enter(asking(MANY)), "udp"),
+                (enter(socket.socket()), "tcp"), (idle, "tcp"), (enter(socket.socketpair()[0]), "tcp")]
         if os.getuid() == 0:
-            raw = stack.enter_context(socket.socket(socket.AF_INET, socket.SOCK_RAW, 200))
+            raw = enter(socket.socket(socket.AF_INET, socket.SOCK_RAW, 200))
             rows += [(raw, "udp"), (raw, "tcp")]
         for given, transport in rows:
-            assert said(given, transport) == (2, "bind"), (given, transport)
+            done = run(programs / "zonesocket", transport, "1", "example", zone, stdin=given)
+            assert (done.returncode, done.stderr) == (2, "bind\n"), (given, transport)

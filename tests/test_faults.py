@@ -45,9 +45,11 @@ class Case:
         return status == 2 and begins and errors == message + b"\n"
 
 
-# `programs`: the words of each case, and the file that is its input, if it has one. In the message of a name error, the owner of
-# the SOA record is a pointer, and the two names in the record's data end in pointers. `calls`: system calls, each with its error
-# and the message of a program if it fails. `sockets`: the same for each server and transport.
+# `programs`: the words of each case, and the file that is its input, if it has one. In the message of a name error, the
+# owner of the SOA record is a pointer, and the two names in the record's data end in pointers. `calls`: system calls,
+# each with its error and the message of a program if it fails. `sockets`: the same for each server and transport.
+# `refused`: calls that may get no memory, each with the beginnings of its output and of what follows, and the line that
+# is printed instead if it gets none.
 FAILING = json.loads((DATA / "failing.json").read_text())
 
 
@@ -104,21 +106,6 @@ def test_each_allocation_fails(case, refusing):
     assert others in ([], [case.well])
 
 
-def calls_refused(well):
-    """For each call that may get no memory, the output that `refused` must have if it gets none. `well` is its normal
-    output."""
-    def changed(begin, end, line):
-        return b"".join([well[: well.index(begin)], line, b"\n", well[well.index(end):] if end else b""])
-
-    return {
-        "check_zone": changed(b"check_zone: ", b"read_zone: ", b"check_zone: Err(Memory)"),
-        "read_zone": changed(b"read_zone: ", b"read_message: ", b"read_zone: NoMemory"),
-        "build": changed(b"build: ", b"read_message: ", b"build: no memory"),
-        "read_message": changed(b"read_message: ", b"load_zone: ", b"read_message: Err(NoMemory)"),
-        "load_zone": changed(b"load_zone: ", b"", b"load_zone: Memory"),
-    }
-
-
 @pytest.fixture
 def refused(programs):
     """The program of crates/refused, which calls functions of the libraries one after another."""
@@ -133,8 +120,11 @@ def test_each_allocation_of_a_call_fails(refused, refusing):
     only makes room ahead. The last allocation must be one of load_zone: the replies and sessions that follow it
     allocate nothing."""
     assert refused.well == (0, (REFUSED / "stdout").read_bytes(), b"")
-    wanted = calls_refused(refused.output)
-    said = []
+    wanted, said = {}, []
+    for name, row in FAILING["refused"].items():
+        begin, end, line = map(str.encode, row)
+        after = refused.output[refused.output.index(end):] if end else b""
+        wanted[name] = refused.output[:refused.output.index(begin)] + line + b"\n" + after
     for result in without_one(refused, refusing):
         names = [name for name, output in wanted.items() if result == (0, output, b"")]
         if names or result != refused.well:
@@ -262,14 +252,8 @@ def ended(server):
 
 
 def ask(server, times):
-    """Sends a query so many times, each over a new socket, and returns the number of replies."""
-    answered = 0
-    for _ in range(times if server.serves else 0):
-        is_udp = server.transport == "udp"
-        with contextlib.suppress(OSError), (asking if is_udp else connected)(ADDRESS, 1) as client:
-            client.send(QUERY if is_udp else framed(QUERY))
-            answered += len(client.recv(512)) > 12
-    return answered
+    """The number of replies to so many queries, each over a new socket."""
+    return sum(len(server.reply(QUERY, 1) or b"") > 12 for _ in range(times if server.serves else 0))
 
 
 each_server = pytest.mark.parametrize("name", ["zoneserve", "zonesocket"])
