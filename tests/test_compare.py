@@ -179,8 +179,8 @@ def over_tcp(out):
 
 
 def other_id(reply):
-    reply.id ^= 1
-    return reply.to_wire()
+    wire = reply.to_wire()
+    return bytes([wire[0] ^ 1]) + wire[1:]
 
 
 def other_question(reply):
@@ -191,7 +191,7 @@ def odd_first(reply, *_):
     """First garbage, a reply with another ID, one to another question, and one from another port; then the right
     reply."""
     right = reply.to_wire()
-    return [b"garbage", bytes([right[0] ^ 1]) + right[1:], other_question(reply), Elsewhere(right), right]
+    return [b"garbage", other_id(reply), other_question(reply), Elsewhere(right), right]
 
 
 def other_soa(reply, *_):
@@ -210,12 +210,6 @@ def own_servers(reply, *question):
     return True
 
 
-def unasked(reply):
-    """The reply without its question."""
-    reply.question = []
-    return True
-
-
 def once():
     """Leaves the first try of each question without a reply."""
     seen = set()
@@ -230,11 +224,11 @@ def once():
 # Changes of one reply after which there is none, for each reason that is reported.
 NO_REPLY = {
     "over UDP: a reply that can't be read": {
-        "garbage": over_udp(lambda reply: reply.to_wire()[:-3]), "five octets": over_udp(lambda reply: reply.to_wire()[:5]),
+        "garbage": over_udp(lambda reply: reply.to_wire()[:-3]),
+        "five octets": over_udp(lambda reply: reply.to_wire()[:5]),
         "octets after the reply": over_udp(lambda reply: reply.to_wire() + b"x")},
     "over UDP: a reply with another ID or question": {
-        "another ID": over_udp(other_id), "another question": over_udp(other_question), "no question": over_udp(unasked),
-        "the query itself": changing(at="www.example. A", flip="QR")},
+        "another ID": over_udp(other_id), "another question": over_udp(other_question)},
     "over UDP: a reply from another address or port": {
         "from another port": over_udp(lambda reply: Elsewhere(reply.to_wire()))},
     "over UDP: silence": {"silence for one question": over_udp(lambda reply: b"")},
@@ -243,8 +237,8 @@ NO_REPLY = {
     "over TCP: a reply that can't be read": {"garbage over TCP": over_tcp(b"garbage")},
     "over TCP: silence": {"silence over TCP": over_tcp(b"")},
 }
-# Rows with what is wrong; the change, in words of `changing` if it is in the file; the kinds of difference, each with the
-# section of the RFC that says so; and options.
+# Rows with what is wrong; the change, in words of `changing` if it is in the file; the kinds of difference, each with
+# the section of the RFC that says so; and options.
 REPLIES = json.loads((DATA / "replies.json").read_text())
 WRONG = [(title, changing(**how), *row) for title, how, *row in REPLIES["wrong"]] + [
     ("lower TTLs", capped, {"lower TTLs: the server caps them, or has a cache": "RFC 1035 3.2.1"}),
@@ -261,9 +255,9 @@ ALLOWED = [(title, changing(**how), *options) for title, how, *options in REPLIE
 ]
 
 
-def compare(server, *words, text=ZONE, rate="0"):
+def compare(server, *words, text=ZONE, rate="0", **how):
     """Runs zonecompare for a zone in standard input."""
-    return servers.run(COMPARE, "--rate", rate, *words, "example", "-", server.address, input=text)
+    return servers.run(COMPARE, "--rate", rate, *words, "example", "-", server.address, input=text, **how)
 
 
 def found_by(done):
@@ -317,20 +311,22 @@ ABOVE = "$TTL 9\n@ SOA ns h 5 1 1 1 1\n@ NS ns\nns A 192.0.2.1\nexample NS ns.ex
 LAME = ": lame: it does not serve the zone: 1 reply "
 
 
-@pytest.mark.parametrize("server, status, wanted, questions", [
-    (lambda: Small(ZONE, lambda *_: b""), 2, ": no reply over UDP: silence\n", 2),
-    (lambda: Small(ZONE, lambda *_: b"garbage"), 2, ": no reply over UDP: a reply that can't be read\n", 2),
-    (lambda: Small(ZONE, lambda reply, *_: Elsewhere(reply.to_wire())), 2, "from another address or port\n", 2),
-    (lambda: Small(ZONE, changing(only="REFUSED")), 1, LAME, 1),
-    (lambda: Small(ZONE, origin="example.net."), 1, LAME, 1),
-    (lambda: Small(ABOVE, origin="."), 1, LAME, 1),
-    (lambda: Small(ZONE.replace(" 5 ", " 4 ").replace("A 192", "A 198")), 1, ": an older zone: 1 reply ", 1),
-    (lambda: Small(ZONE.replace(" 5 ", " 6 ")), 1, ": a newer zone: 1 reply ", 1),
-    (lambda: Small(ZONE.replace(" 5 ", " 4294967295 ")), 1, ": an older zone: 1 reply ", 1)],
-    ids=["silent", "garbage", "another port", "refuses", "another zone", "the zone above", "older", "newer",
-         "older, around 0"])
-def test_servers_without_the_zone(programs, server, status, wanted, questions):
-    server = server()
+# Arguments of `Small`, the status, a part of what is printed, and how many questions are asked.
+WITHOUT_THE_ZONE = {
+    "silent": ({"wrong": lambda *_: b""}, 2, ": no reply over UDP: silence\n", 2),
+    "garbage": ({"wrong": lambda *_: b"garbage"}, 2, ": no reply over UDP: a reply that can't be read\n", 2),
+    "another port": ({"wrong": lambda reply, *_: Elsewhere(reply.to_wire())}, 2, "from another address or port\n", 2),
+    "refuses": ({"wrong": changing(only="REFUSED")}, 1, LAME, 1),
+    "another zone": ({"origin": "example.net."}, 1, LAME, 1),
+    "the zone above": ({"text": ABOVE, "origin": "."}, 1, LAME, 1),
+    "older": ({"text": ZONE.replace(" 5 ", " 4 ").replace("A 192", "A 198")}, 1, ": an older zone: 1 reply ", 1),
+    "newer": ({"text": ZONE.replace(" 5 ", " 6 ")}, 1, ": a newer zone: 1 reply ", 1),
+    "older, around 0": ({"text": ZONE.replace(" 5 ", " 4294967295 ")}, 1, ": an older zone: 1 reply ", 1)}
+
+
+@pytest.mark.parametrize("how, status, wanted, questions", WITHOUT_THE_ZONE.values(), ids=WITHOUT_THE_ZONE)
+def test_servers_without_the_zone(programs, how, status, wanted, questions):
+    server = Small(**{"text": ZONE, **how})
     done = compare(server)
     assert (done.returncode, done.stderr, len(server.asked)) == (status, "", questions) and wanted in done.stdout
 
@@ -377,8 +373,7 @@ def test_an_output_that_is_full_or_closed(programs, is_closed):
     reader, writer = os.pipe()
     os.close(reader)
     with os.fdopen(writer) if is_closed else open("/dev/full", "w") as output:
-        done = subprocess.run([COMPARE, "--rate", "0", "example", "-", Small(ZONE).address], input=ZONE, text=True,
-                              stdout=output, stderr=subprocess.PIPE)
+        done = compare(Small(ZONE), capture_output=False, stdout=output, stderr=subprocess.PIPE)
     assert done.returncode == 2 and "Traceback" not in done.stderr and not (is_closed and done.stderr)
 
 
@@ -441,10 +436,7 @@ def test_an_interrupt(programs):
 
 def test_progress_is_printed_on_a_terminal(programs):
     ours, theirs = pty.openpty()
-    with subprocess.Popen([COMPARE, "--rate", "0", "example", "-", Small(ZONE).address], stdin=subprocess.PIPE,
-                          stdout=theirs,
-                          stderr=theirs) as run:
-        run.communicate(ZONE.encode())
+    compare(Small(ZONE), capture_output=False, stdout=theirs, stderr=theirs)
     os.close(theirs)
     said = os.read(ours, 65536).decode()
     assert "50 replies\r" in said and " questions to 1 server: 0 differ" in said

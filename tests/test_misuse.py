@@ -1,5 +1,6 @@
 """Wrong calls, files and outputs of the built programs; and what a caller of the libraries must not do, or no test
 would notice."""
+import itertools
 import json
 import os
 import re
@@ -39,27 +40,26 @@ def test_a_call(programs, tmp_path, program, words, status, output, errors):
 SOUND = b"$TTL 60\n@ SOA ns h 1 2 3 4 5\n@ NS ns\nns A 192.0.2.1\n"
 MANY = b"w A 192.0.2.300\n" * 2_000
 FULL = SOUND + b"".join(b"w%d A 192.0.2.2\n" % number for number in range(99_997))
+LONGEST = SOUND + b"w A x\n" + b"\n" * (2**24 - 58)
+LIMITS = {
+    "empty": (b"", "example. Z01\nexample. Z04\n"),
+    "2,000 faults": (SOUND + b"w CNAME ns\nw A 192.0.2.1\n" + MANY, "".join(
+        f"{line}:5-{line}:16 R13.3\n" for line in range(7, 1_007)) + "more\nw.example. Z06\n"),
+    "1,000 faults": (SOUND + MANY[:16_000], "".join(f"{line}:5-{line}:16 R13.3\n" for line in range(5, 1_005))),
+    "100,000 records": (FULL, ""),
+    "more records": (FULL + b"x A 192.0.2.3\ny A 192.0.2.300\n", "100002:1-100002:1 R14\n"),
+    "16 MiB": (LONGEST, "5:5-5:6 R13.3\n"),
+    "more octets": (LONGEST + b"y A x\n", "5:5-5:6 R13.3\n16777164:1-16777164:2 R15\n"),
+    "a long comment": (SOUND + b"w A x\n" + b";" * 2**24, "5:5-5:6 R13.3\n6:16777159-6:16777160 R15\n")}
 
 
-@pytest.mark.parametrize("text, wanted", [
-    (b"", "example. Z01\nexample. Z04\n"),
-    (SOUND + b"w CNAME ns\nw A 192.0.2.1\n" + MANY,
-     "".join(f"{line}:5-{line}:16 R13.3\n" for line in range(7, 1_007)) + "more\nw.example. Z06\n"),
-    (SOUND + MANY[:16_000], "".join(f"{line}:5-{line}:16 R13.3\n" for line in range(5, 1_005))),
-    (FULL, ""),
-    (FULL + b"x A 192.0.2.3\ny A 192.0.2.300\n", "100002:1-100002:1 R14\n"),
-    (SOUND + b"w A x\n" + b"\n" * (2**24 - 58), "5:5-5:6 R13.3\n"),
-    (SOUND + b"w A x\n" + b"\n" * (2**24 - 58) + b"y A x\n", "5:5-5:6 R13.3\n16777164:1-16777164:2 R15\n"),
-    (SOUND + b"w A x\n" + b";" * 2**24, "5:5-5:6 R13.3\n6:16777159-6:16777160 R15\n")],
-    ids=["empty", "2,000 faults", "1,000 faults", "100,000 records", "more records", "16 MiB", "more octets",
-         "a long comment"])
+@pytest.mark.parametrize("text, wanted", LIMITS.values(), ids=LIMITS)
 def test_the_limits_of_zonefaults(programs, tmp_path, text, wanted):
     """Also from a pipe, in which it can't look at the size of the file."""
     file = tmp_path / "zone"
     file.write_bytes(text)
     for words in ([file], ["/dev/stdin"]):
-        done = subprocess.run([programs / "zonefaults", "example", *words], capture_output=True,
-                              **({"input": text} if words != [file] else {}))
+        done = run(programs / "zonefaults", "example", *words, input=text, text=False)
         assert (done.returncode, done.stdout.decode(), done.stderr) == (int(wanted != ""), wanted, b"")
 
 
@@ -72,20 +72,16 @@ def test_the_name_of_a_program_need_not_be_utf_8(programs, tmp_path, program, wo
     assert (done.returncode, done.stdout, done.stderr) == (0, output.encode(), b"")
 
 
-@pytest.mark.parametrize("device", [">/dev/full", ">&-", "| head -c 100 >/dev/null; exit ${PIPESTATUS[0]}"])
-@pytest.mark.parametrize("option", ["", "--print", "faults"])
-def test_an_output_that_fails(programs, tmp_path, option, device):
-    zone = EXAMPLES / "example.zone"
-    if option == "faults":
-        zone = tmp_path / "many.zone"
+@pytest.mark.parametrize("words, device", [
+    *itertools.product(["zonecheck", "zonecheck --print", "zonefaults"], [">/dev/full", ">&-"]),
+    *((words, "| head -c 100 >/dev/null; exit ${PIPESTATUS[0]}") for words in ("zonecheck --print", "zonefaults"))])
+def test_an_output_that_fails(programs, tmp_path, words, device):
+    zone = tmp_path / "zone"
+    if words == "zonefaults":
         zone.write_bytes(SOUND + b"".join(b"w%d CNAME ns\nw%d A 192.0.2.2\n" % (at, at) for at in range(10_000)))
-        done = run("bash", "-c", f"zonefaults example {zone} {device}")
-        assert (done.returncode, done.stderr) == (2, "P1\n")
-        return
-    if "|" in device:
-        option, zone = "--print", tmp_path / "mixed.zone"
-        zone.write_bytes(mixed_zone())
-    done = run("bash", "-c", f"zonecheck {option} example {zone} {device}")
+    else:
+        zone.write_bytes(mixed_zone() if "|" in device else (EXAMPLES / "example.zone").read_bytes())
+    done = run("bash", "-c", f"{words} example {zone} {device}")
     assert (done.returncode, done.stderr) == (2, "P1\n")
 
 
