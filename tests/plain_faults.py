@@ -135,15 +135,6 @@ def type_of(words):
     return number if number is not None and number < 65536 and number not in NO_ZONE_TYPES else None
 
 
-def is_class(word):
-    raw = word[0].lower()
-    return not word[1] and (raw in (b"in", b"ch", b"cs", b"hs") or raw.startswith(b"class"))
-
-
-def is_ttl(word):
-    return not word[1] and word[0][:1].isdigit()
-
-
 def ttl_of(word):
     number = number_of(word, 4)
     return number if number is not None and number < 2 ** 31 else None
@@ -264,10 +255,11 @@ class Reader:
             self.owner = name_of(words[0], self.origin)
         stated = other = None
         for _ in range(2):
-            if rest and is_ttl(rest[0]) and stated is None:
-                stated, rest = rest[0], rest[1:]
-            elif rest and is_class(rest[0]) and other is None:
-                other, rest = rest[0], rest[1:]
+            raw = rest[0][0].lower() if rest and not rest[0][1] else b""
+            if raw[:1].isdigit() and stated is None:
+                stated, *rest = rest
+            elif re.fullmatch(rb"in|c[hs]|hs|class.*", raw) and other is None:
+                other, *rest = rest
         before, kind = len(words) - len(rest), type_of(rest)
         ttl = ttl_of(stated) if stated else None
         in_force = self.stated if self.default is None else self.default
