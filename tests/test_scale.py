@@ -23,13 +23,13 @@ NEW_NETWORK = 0x40000000
 class Network:
     """Network namespaces, and the processes in them, until the end of a test."""
 
-    def __init__(self, folder):
-        self.folder, self.prefix, self.hosts, self.processes = folder, f"scale{os.getpid()}-", [], []
+    def __init__(self, folder, stack):
+        self.folder, self.prefix, self.stack = folder, f"scale{os.getpid()}-", stack
 
     def host(self, name, *addresses):
         """Makes a namespace with these addresses."""
-        self.hosts.append(name)
         assert run("ip", "netns", "add", self.prefix + name).returncode == 0
+        self.stack.callback(run, "ip", "netns", "del", self.prefix + name)
         self.ip(name, "link set lo up",
                 *(f"addr add {address} dev lo {'nodad' * (':' in address)}" for address in addresses))
 
@@ -51,22 +51,14 @@ class Network:
     def start(self, name, *words, **settings):
         with self.within(name), open(self.folder / "log", "a") as log:
             how = {"stdout": log, "stderr": log, "start_new_session": True, "env": {**os.environ, **settings}}
-            self.processes.append(subprocess.Popen([str(word) for word in words], **how))
-
-    def close(self):
-        for process in self.processes:
-            with contextlib.suppress(ProcessLookupError):
-                os.killpg(process.pid, signal.SIGTERM)
-            process.wait(20)
-        for name in self.hosts:
-            run("ip", "netns", "del", self.prefix + name)
+            process = self.stack.enter_context(subprocess.Popen(words, **how))
+        self.stack.callback(os.killpg, process.pid, signal.SIGTERM)
 
 
 @pytest.fixture
 def network(programs, tmp_path):
-    network = Network(tmp_path)
-    yield network
-    network.close()
+    with contextlib.ExitStack() as stack:
+        yield Network(tmp_path, stack)
 
 
 # ---- services behind dnsdist
