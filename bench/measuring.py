@@ -25,19 +25,14 @@ def program(name):
     return str(Path(folder, name).resolve() if folder else TOP / "crates" / name / "out" / name)
 
 
-def need(*programs):
-    """Ends this program with a message if one of the programs is missing."""
-    for name in programs:
-        if not shutil.which(name):
-            sys.exit(f"{name} is missing")
-
-
 def print_tables(tables, *programs):
     """Prints the tables named by the arguments, or all of them: each is a function of an empty folder. `programs` are
     needed. The status is 1 if a table returns a true value."""
     if unknown := set(sys.argv[1:]) - set(tables):
         sys.exit(f"{sys.argv[0]}: there is no table {unknown.pop()}, but {', '.join(tables)}")
-    need("valgrind", "/usr/bin/time", *programs)
+    for name in ("valgrind", "/usr/bin/time", *programs):
+        if not shutil.which(name):
+            sys.exit(f"{name} is missing")
     with tempfile.TemporaryDirectory() as folder:
         sys.exit(any([tables[name](folder) for name in sys.argv[1:] or tables]))
 
