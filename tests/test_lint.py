@@ -28,7 +28,9 @@ FAULTY = (TOP / "examples" / "faulty.zone").read_text()
 # code of what is wrong. `says`: the same, and a part of the message. `together`: mistakes that are not made in one
 # zone, since in one RRset or on one line they make other faults. `calls`: bad ones. `results`: lines of which one is
 # faulty, and the others only because of it. `places`: lines in BIND's form, and the place of the fault. `serials`: a
-# serial after 4294967295, lines that are added, and the faults. `settings`: of servers of a zone in FOLDER.
+# serial after 4294967295, lines that are added, and the faults. `settings`: of servers of a zone in FOLDER. `steps`:
+# runs, each with options, the lines that are added to a good zone, or null if the file is the one of the run before,
+# the status, and all faults, or null.
 CASES = json.loads((DATA / "faults.json").read_text())
 # A sound zone, and mistakes: the title, the kind, the lines that are taken out of the zone, and those that are added.
 # The kind is `fault` if the zone must not be served as it is, `warning` if it may be meant.
@@ -337,9 +339,6 @@ def test_a_zone_without_faults_in_each_format(lint):
     for form in ("json", "gitlab", "sarif", "checkstyle", "github"):
         status, _, said = lint("--served", "--format", form, "example", "z", text=SERVED)
         assert status == 0 and (form != "json" or json.loads(said) == [])
-    assert lint("--served", "--strict", "example", "z")[0] == 0
-    assert lint("--served", "example", "z", text=SERVED + "x CNAME nowhere\n")[0] == 0
-    assert lint("--served", "--strict", "example", "z")[0] == 1
 
 
 # ---- serials
@@ -438,9 +437,12 @@ def test_files_of_16_mib(lint, program, text, wanted):
     assert status == wanted and seconds < 20 and megabytes < 400
 
 
-def test_files_in_the_form_of_bind_pass(lint):
-    assert lint("example", "z", text=GOOD + '@ CAA 0 issue "ca.example"\n')[:2] == (0, [])
-    assert lint("--served", "example", "z")[0] == 1
+@pytest.mark.parametrize("steps", CASES["steps"].values(), ids=CASES["steps"])
+def test_steps(lint, steps):
+    for options, lines, status, wanted in steps:
+        text = None if lines is None else (SERVED if "--served" in options else GOOD) + lines
+        got, found, said = lint(*options.split(), "example", "z", text=text)
+        assert got == status and wanted in (None, listed(found)), said
 
 
 def test_what_only_other_servers_serve_is_noted(lint):
@@ -460,30 +462,16 @@ def test_no_false_ok(lint, line, code):
     assert (code, 6) in found, said
 
 
-@pytest.mark.parametrize("line, found", [
-    ("@ TYPE257 \\# 1 00\n_25._tcp TYPE52 \\# 2 03 01", []), ("@ TYPE257 \\# 7 00 056973 737565\nx A y", [("R13", 7)])])
-def test_octets_of_types_without_a_name(lint, line, found):
-    assert lint("--served", "--select", "R,W58", "example", "z", text=SERVED + line + "\n")[:2] == (bool(found), found)
-
-
-def test_octets_at_the_ends_of_a_file(lint):
+def test_a_byte_order_mark(lint):
     assert lint("example", "z", text=b"\xef\xbb\xbf" + GOOD.encode())[:2] == (1, [("R01", 1)])
-    assert lint("example", "z", text=GOOD + "$TTL 2h")[:2] == (0, [("W07", 6)])
 
 
-def test_rules(lint, tmp_path):
-    text = GOOD + "a CNAME b\nb CNAME ns\nm MX 1 mail.example\nx A 127.0.0.1 ; zonelint: ignore W48\n"
-    assert lint("example", "z", text=text)[:2] == (1, [("W31", 8), ("W45", 6)])
-    assert lint("--ignore", "W31,W45", "example", "z")[:2] == (0, [])
-    assert lint("--select", "W45", "example", "z")[:2] == (0, [("W45", 6)])
-    assert lint("--select", "W45", "--error", "W", "example", "z")[0] == 1
-    assert lint("--ignore", "x", "example", "z")[0] == 2
+def test_rules_of_a_folder(lint, tmp_path):
     (tmp_path / "zonelint.toml").write_text('ignore = ["W31"]\n[zones.example]\nerror = ["W45"]\n')
-    assert lint("example", "z")[:2] == (1, [("W45", 6)])
+    text = GOOD + "a CNAME b\nb CNAME ns\nm MX 1 mail.example\nx A 127.0.0.1 ; zonelint: ignore W48\n"
+    assert lint("example", "z", text=text)[:2] == (1, [("W45", 6)])
     (tmp_path / "zonelint.toml").write_text("ignore = 5\n")
     assert lint("example", "z")[0] == 2
-    (tmp_path / "zonelint.toml").unlink()
-    assert lint("example", "z", text=text + "; zonelint: ignore-file W31, W45\n")[:2] == (0, [])
 
 
 def test_explain_and_version(lint):
