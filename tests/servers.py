@@ -51,11 +51,10 @@ def script(path, *lines):
     Path(path).chmod(0o755)
 
 
-def serial_of(reply, place):
-    """The serial in a reply whose first record is an SOA at this place, with a pointer as its owner. Four numbers
-    follow it."""
-    end = place + 12 + int.from_bytes(reply[place + 10:place + 12], "big")
-    return int.from_bytes(reply[end - 20:end - 16], "big")
+def serial_in(reply):
+    """The serial of the SOA record in a reply, or None if there is none."""
+    answer = dns.message.from_wire(reply).answer
+    return answer[0][0].serial if answer else None
 
 
 def framed(message):
@@ -303,11 +302,9 @@ def asks(client, message):
 
 def serial_at(address, origin):
     """The serial of the zone that a server replies with over UDP, or None."""
-    message = query(origin, "SOA")
     with contextlib.suppress(OSError), asking(address, 0.5) as client:
-        client.send(message)
-        reply = client.recv(512)
-        return serial_of(reply, len(message)) if reply[7] else None
+        client.send(query(origin, "SOA"))
+        return serial_in(client.recv(512))
 
 
 def is_answered(address, message):

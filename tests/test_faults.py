@@ -308,8 +308,7 @@ def recorded(transport):
     first = lines.index("load_zone: a zone") + 1
     replies = [bytes.fromhex(line) for line in lines[first:first + 16]][1 if transport == "tcp" else 0::2]
     asked = [dns.message.from_wire(reply, question_only=True) for reply in replies]
-    queries = [dns.message.make_query(one.question[0].name, one.question[0].rdtype, flags=0, id=one.id).to_wire()
-               for one in asked]
+    queries = [query(one.question[0].name, one.question[0].rdtype, one.id) for one in asked]
     return queries, replies, bytes.fromhex(lines[lines.index("serve_stream: Ok(3)") + 1])
 
 
