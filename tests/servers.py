@@ -44,6 +44,12 @@ def run(*words, **how):
                           **{"capture_output": True, "text": True, "timeout": 900, **how})
 
 
+def limit_of(kind, most):
+    """What a new process does so that it has this limit. Without `restore_signals` a file that is too large gives no
+    signal."""
+    return lambda: resource.setrlimit(kind, (most, most))
+
+
 def script(path, *lines):
     """Writes a program of these lines for bash, in a folder that need not exist."""
     Path(path).parent.mkdir(exist_ok=True)

@@ -17,8 +17,8 @@ from concurrent.futures import ThreadPoolExecutor
 from pathlib import Path
 
 import pytest
-from servers import (DATA, LIBEXEC, TOP, Serving, asking, asks, bound, connected, frame_of, framed, other, query, run,
-                     until)
+from servers import (DATA, LIBEXEC, TOP, Serving, asking, asks, bound, connected, frame_of, framed, limit_of, other,
+                     query, run, until)
 
 HERE, PORT, SOCKET_PORT, RESOLVER, BELOW = "127.0.0.1", 5399, 5398, 5397, "127.0.0.53"
 ADDRESS = (HERE, PORT)
@@ -397,8 +397,7 @@ def test_a_peer_that_resets(server, connect):
 
 def test_few_descriptors(programs, zone, connect):
     """A connection that can't be accepted does not stop the others."""
-    limit = lambda: resource.setrlimit(resource.RLIMIT_NOFILE, (20, 20))  # noqa: E731
-    with zonesocket(programs, zone, MANY, preexec_fn=limit) as server:
+    with zonesocket(programs, zone, MANY, preexec_fn=limit_of(resource.RLIMIT_NOFILE, 20)) as server:
         peers = connect(30)
         assert asks(peers[0], QUESTION)
         for peer in peers[1:20]:

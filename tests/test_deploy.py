@@ -5,12 +5,11 @@ import json
 import os
 import re
 import resource
-import signal
 import subprocess
 from pathlib import Path
 
 import pytest
-from servers import DATA, run, script, until
+from servers import DATA, limit_of, run, script, until
 
 WORKS = ["bash", "-c", "echo >>restarts"]
 OTHER = "served.zone is the zone example., and new is exmaple."
@@ -93,23 +92,15 @@ def test_a_served_zone_that_is_another_or_at_fault(deploys):
     deploys(0, 4, 3, "is at fault itself")
 
 
-def limited():
-    resource.setrlimit(resource.RLIMIT_FSIZE, (100 * 1024, 100 * 1024))
-
-
-def limited_without_a_signal():
-    signal.signal(signal.SIGXFSZ, signal.SIG_IGN)
-    limited()
-
-
 def test_what_cannot_be_written_as_a_whole_is_not_deployed(deploys):
     """The file and the reason are named."""
+    limited = limit_of(resource.RLIMIT_FSIZE, 100 * 1024)
     write(6, count=5000)
     deploys(0, 6, 1)
     write(2)
     deploys(2, 6, 1, "served.zone can't be copied", preexec_fn=limited)
     write(7, count=4000)
-    deploys(2, 6, 1, "served.zone.deploy/new': File too large", preexec_fn=limited_without_a_signal)
+    deploys(2, 6, 1, "served.zone.deploy/new': File too large", preexec_fn=limited, restore_signals=False)
     cut = hashlib.sha256(Path("new").read_bytes()[:-30]).hexdigest()
     deploys(2, 6, 1, "new was cut off or changed", options=[f"--sha256={cut}"])
     Path("served.zone").unlink()

@@ -8,7 +8,6 @@ import json
 import os
 import re
 import resource
-import signal
 import socket
 import subprocess
 import threading
@@ -16,7 +15,7 @@ import time
 
 import dns.message
 import pytest
-from servers import DATA, TOP, Serving, asking, bound, connected, filled, framed, mixed_zone, query, until
+from servers import DATA, TOP, Serving, asking, bound, connected, filled, framed, limit_of, mixed_zone, query, until
 
 ADDRESS = ("127.0.0.1", 5396)
 QUERY = query("www.example")
@@ -79,10 +78,6 @@ def refusing(folder):
         mark.unlink(missing_ok=True)
         return {**os.environ, "LD_PRELOAD": str(device), "REFUSE": str(number), "REFUSED": str(mark)}, mark
     return refusing
-
-
-def limit_of(kind, octets):
-    return lambda: resource.setrlimit(kind, (octets, octets))
 
 
 # ---- memory
@@ -188,9 +183,7 @@ def test_each_system_call_fails(case, folder, name, error, message):
 def test_bad_streams(case, folder):
     """Standard output is full, closed, a pipe without a reader, or a file of limited size with SIGXFSZ ignored. Then
     standard error is closed."""
-    def limited():
-        signal.signal(signal.SIGXFSZ, signal.SIG_IGN)
-        resource.setrlimit(resource.RLIMIT_FSIZE, (512, 512))
+    limited = {"preexec_fn": limit_of(resource.RLIMIT_FSIZE, 512), "restore_signals": False}
     wanted = (2, None, b"P1\n") if case.output else (case.status, None, case.errors)
     reader, writer = os.pipe()
     os.close(reader)
@@ -199,7 +192,7 @@ def test_bad_streams(case, folder):
         assert case.run(stdout=full, **how) == wanted
         assert case.run(preexec_fn=lambda: os.close(1), **how) == wanted
         assert case.run(stdout=pipe, **how) == wanted
-        assert len(case.output) <= 512 or case.run(stdout=file, preexec_fn=limited, **how) == wanted
+        assert len(case.output) <= 512 or case.run(stdout=file, **limited, **how) == wanted
     how = {"capture_output": False, "stdout": subprocess.PIPE}
     assert case.run(preexec_fn=lambda: os.close(2), **how) == (case.status, case.output, None)
 
