@@ -261,8 +261,8 @@ def test_units(tmp_path):
 MANY = HERE, 5391
 LARGE = query("large.example", "TXT")
 MESSAGES = [
-    QUESTION, query("WWW.example"), query("nope.example"), query("alias.example"), query("x.wild.example", "TXT"), LARGE,
-    query("example", "NS"), query("example.org"), query("www.example", "ANY"), QUESTION[:11], b"", QUESTION[:20],
+    QUESTION, query("WWW.example"), query("nope.example"), query("alias.example"), query("x.wild.example", "TXT"),
+    LARGE, query("example", "NS"), query("example.org"), query("www.example", "ANY"), QUESTION[:11], b"", QUESTION[:20],
     QUESTION + bytes(3), QUESTION + bytes(60_000), b"\x00\x01\x80" + bytes(20), bytes(12)]
 
 
@@ -422,9 +422,9 @@ def test_end_on_request(programs, server, zone, connect):
 
 
 def test_a_file_or_a_terminal_never_ends_it(programs, zone, tmp_path):
-    for output in [open(tmp_path / "said", "wb"), open(os.openpty()[1], "wb")]:
-        with output, bound(socket.SOCK_STREAM, MANY) as given:
-            server = subprocess.Popen([programs / "zonesocket", "tcp", "2", "example", zone], stdin=given, stdout=output)
+    for out in [open(tmp_path / "said", "wb"), open(os.openpty()[1], "wb")]:
+        with out, bound(socket.SOCK_STREAM, MANY) as given:
+            server = subprocess.Popen([programs / "zonesocket", "tcp", "2", "example", zone], stdin=given, stdout=out)
             assert until(asks_at_once)
             time.sleep(0.5)
             assert server.poll() is None and asks_at_once()

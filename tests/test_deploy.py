@@ -39,9 +39,9 @@ def deploys(programs, tmp_path, monkeypatch):
     return deploys
 
 
-# Steps, one after another: the serial and the address of the file that is written before, if one is; the status, the serial
-# that is served and the restarts so far; a part of what is printed; and how zonedeploy is run. A restart that failed is made up
-# for by the next run, and not twice.
+# Steps, one after another: the serial and the address of the file that is written before, if one is; the status, the
+# serial that is served and the restarts so far; a part of what is printed; and how zonedeploy is run. A restart that
+# failed is made up for by the next run, and not twice.
 STEPS = json.loads((DATA / "deploys.json").read_text())
 
 

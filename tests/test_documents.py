@@ -12,7 +12,7 @@ from servers import TOP, run
 # These need a system of their own: tests/try-operate sets RUNNER to a program that runs a command in a container.
 APART = ["docs/OPERATE.md", "docs/SCALE.md"]
 PAGES = [str(page.relative_to(TOP)) for page in [TOP / "README.md", *sorted((TOP / "docs").glob("*.md"))]]
-MANUAL = [f"man/{name}.1" for name in ("zonecheck", "zonefaults", "zonelint", "zoneimport", "zonecompare", "zoneserve", "dnsmsg")]
+MANUAL = [f"man/{name}.1" for name in "zonecheck zonefaults zonelint zoneimport zonecompare zoneserve dnsmsg".split()]
 NEEDED = ["named-checkzone", "named-compilezone", "nsd-checkzone"]
 
 

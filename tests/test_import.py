@@ -7,7 +7,6 @@ import os
 import random
 import re
 import sys
-import tempfile
 from pathlib import Path
 
 import pytest
@@ -55,15 +54,10 @@ def printed(text):
 def compiled(text, folder):
     """What named-compilezone reads from a zone in a folder, with owners in lower case, or None if it refuses the zone;
     the numbers of the lines that it refuses; and what it prints."""
-    with tempfile.NamedTemporaryFile(dir=folder) as zone, tempfile.NamedTemporaryFile(dir=folder) as out:
-        zone.write(text.encode("latin-1"))
-        zone.flush()
-        done = run(*LOAD, "-o", out.name, "example", zone.name, cwd=folder, encoding="latin-1")
-        records = [re.sub(r"^\S+", lambda owner: owner[0].lower(), line)
-                   for line in out.read().decode("latin-1").splitlines()]
-        said = done.stdout + done.stderr
-        refused = {int(line) for line in re.findall(rf"{re.escape(zone.name)}:(\d+): ", said)}
-    return records if done.returncode == 0 else None, refused, said
+    done = run(*LOAD, "-o", "-", "example", "/dev/stdin", input=text, cwd=folder, encoding="latin-1")
+    records = [re.sub(r"^\S+", lambda owner: owner[0].lower(), line) for line in done.stdout.splitlines()]
+    refused = {int(line) for line in re.findall(r"/dev/stdin:(\d+): ", done.stderr)}
+    return records if done.returncode == 0 else None, refused, done.stderr
 
 
 @pytest.mark.parametrize("lines, means", CASES["means"])
