@@ -3,7 +3,6 @@ ends."""
 import os
 import signal
 import socket
-import subprocess
 import threading
 import time
 
@@ -142,8 +141,7 @@ def test_a_full_folder_and_a_faulty_start(run, programs, tmp_path):
         for one in sockets:
             one.close()
     for settings, words in [({}, ["a", "b"]), ({"LISTEN_FDS": "1"}, ["a"]), ({"LISTEN_FDS": "0"}, ["a", "b"])]:
-        run_it = [servers.LIBEXEC / "workers", *words]
-        ended = subprocess.run(run_it, env={**os.environ, **settings}, capture_output=True, text=True)
+        ended = servers.run(servers.LIBEXEC / "workers", *words, env={**os.environ, **settings})
         assert (ended.returncode, ended.stderr[:6]) == (2, "usage:")
 
 
@@ -171,7 +169,7 @@ def test_workers_that_end(run):
 
 def test_turns(run):
     """A worker that has handled its turns is followed by another."""
-    with run(TURNS="100") as workers:
+    with run(TURNS="100"):
         with steady(300, 20) as client:
             time.sleep(3)
         assert client.lost_tcp == 0 and client.lost <= 0, f"{client.lost} of {client.asked}"
