@@ -200,29 +200,25 @@ def test_bad_streams(case, folder):
 def test_streams_that_do_not_block(case):
     """Standard input and output are pipes in non-blocking mode, and the peer is slow to write and to read: the run is
     normal."""
-    reader, given = os.pipe()
-    output, writer = os.pipe()
-    fcntl.fcntl(writer, fcntl.F_SETPIPE_SZ, 4_096)
-    for end in (reader, writer):
-        os.set_blocking(end, False)
-    run = subprocess.Popen(case.words, stdin=reader, stdout=writer, stderr=subprocess.PIPE)
-    os.close(reader)
-    os.close(writer)
+    def unblock():
+        fcntl.fcntl(1, fcntl.F_SETPIPE_SZ, 4_096)
+        os.set_blocking(0, False)
+        os.set_blocking(1, False)
 
     def give():
         half = len(case.given) // 2
-        with os.fdopen(given, "wb", 0) as to, contextlib.suppress(OSError):
+        with contextlib.suppress(OSError), run.stdin:
             for piece in (case.given[:half], case.given[half:]):
                 time.sleep(0.1)
-                to.write(piece)
+                run.stdin.write(piece)
 
-    giver = threading.Thread(target=give)
-    giver.start()
-    time.sleep(0.3)
-    with os.fdopen(output, "rb", 0) as got:
-        written = got.readall()
-    giver.join()
-    errors = run.communicate(timeout=60)[1]
+    pipes = dict.fromkeys(("stdin", "stdout", "stderr"), subprocess.PIPE)
+    with subprocess.Popen(case.words, bufsize=0, preexec_fn=unblock, **pipes) as run:
+        giver = threading.Thread(target=give)
+        giver.start()
+        time.sleep(0.3)
+        written, errors = run.stdout.read(), run.stderr.read()
+        giver.join()
     assert (run.returncode, written, errors) == case.well
 
 
