@@ -120,15 +120,14 @@ def test_each_allocation_of_a_call_fails(refused, refusing):
         begin, end, line = map(str.encode, row)
         after = refused.output[refused.output.index(end):] if end else b""
         wanted[name] = refused.output[:refused.output.index(begin)] + line + b"\n" + after
-    for result in without_one(refused, refusing):
+    results = list(without_one(refused, refusing))
+    reported = [result for result in results if result != refused.well]
+    for result in reported:
         names = [name for name, output in wanted.items() if result == (0, output, b"")]
-        if names or result != refused.well:
-            assert names or refused.stopped(result, b"no memory"), result
-            said.append(names[0] if names else "the program")
-        else:
-            said.append("none")
-    assert set(said) - {"none"} == {*wanted, "the program"} and said.count("none") <= 3, said
-    assert [one for one in said if one != "none"][-1] == "load_zone"
+        assert names or refused.stopped(result, b"no memory"), result
+        said += names or ["the program"]
+    assert set(said) == {*wanted, "the program"} and len(results) - len(reported) <= 3, said
+    assert said[-1] == "load_zone"
 
 
 def test_little_memory(case):
