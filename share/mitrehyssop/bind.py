@@ -49,8 +49,9 @@ class Importer(Reader):
         self.passed, self.named, self.lost = collections.Counter(), set(), False
         # `restate`: whether the next record has to state its owner. `implied`: the TTL that records without one get from the
         # SOA record, or None. `size`: how many octets `lines` have. `count`: how many records were read. `files`: how many files
-        # were included. `lost`: whether an included file could not be read.
-        self.restate, self.implied, self.size, self.count, self.files = False, None, 0, 0, 0
+        # were included. `lost`: whether an included file could not be read. `written`: the owner of the last line, if it was not yet
+        # put into `owner`.
+        self.restate, self.implied, self.size, self.count, self.files, self.written = False, None, 0, 0, 0, None
 
     def read(self, text, path, stack=()):
         """Adds the entries of a text."""
@@ -59,12 +60,16 @@ class Importer(Reader):
         if stack and not lines[-1]:
             lines.pop()
         at, nested = 0, True
-        # A zone that exceeds one of these limits never passes, so the rest of it is not read.
-        while at < len(lines) and self.size <= LARGEST and len(self.lines) < LINES and self.count < 101000:
-            if lines[at][:1] in ("", ";") or self.is_plain(lines[at]):
+        while at < len(lines):
+            begin, same = at, []
+            while at < len(lines) and (line := self.quick(lines[at])) is not None:
+                same.append(line)
                 at += 1
-                self.add(lines[at - 1:at], file + at)
-                continue
+            self.add(same, file + begin + 1, file + at)
+            self.owner, self.written = self.written and name(self.written, self.origin) or self.owner, None
+            # A zone that exceeds one of these limits never passes, so the rest of it is not read.
+            if at == len(lines) or self.size > LARGEST or len(self.lines) >= LINES or self.count > 101000:
+                break
             entry, begun = self.entry(lines, at, nested), len(self.lines)
             # An entry that is not closed is read to the end of the file. So that this is not repeated for each later entry, they
             # are read without nesting: then the next parenthesis inside another ends an entry.
@@ -88,20 +93,25 @@ class Importer(Reader):
             self.add(new, file + at + 1, file + entry.end)
             at = entry.end
 
-    def is_plain(self, line):
-        """Whether a line is an entry that stays as it is, as most are. If so, the entry is read."""
-        quick = None if self.restate or self.implied else QUICK.fullmatch(line)
-        if not quick or quick[2] and quick[2][0] == "0" or quick[3] not in ("A", "NS", "CNAME", "PTR") and not PLAIN.match(quick[4]):
-            return False
-        self.owner = quick[1] and name(quick[1], self.origin) or self.owner
-        self.stated, self.count, self.pieces = quick[2] or self.stated, self.count + 1, self.pieces + 8
-        return True
+    def quick(self, line):
+        """The converted line if it is an entry of which only the TTL may have to be converted, as most are, or has no entry; else None.
+        If so, the entry is read."""
+        if line[:1] in ("", ";"):
+            return line
+        quick = QUICK.fullmatch(line)
+        if not quick or self.restate and not quick[1] or self.implied and not quick[2] or \
+                quick[3] in ("AAAA", "MX", "SRV") and not PLAIN.match(quick[4]):
+            return None
+        if (ttl := quick[2]) and not (ttl.isdecimal() and ttl[0] != "0"):
+            line = f"{line[:quick.start(2)]}{digits(ttl) or ttl}{line[quick.end(2):]}"
+        self.written, self.stated, self.count, self.restate = quick[1] or self.written, ttl or self.stated, self.count + 1, False
+        return line
 
-    def add(self, lines, first, last=0):
-        for place, line in enumerate(lines, first):
-            self.lines.append(line)
-            self.places.append(min(place, last or first))
-            self.size += len(line) + 1
+    def add(self, lines, first, last):
+        """Adds lines, whose places are from `first` on, but at most `last`."""
+        self.lines += lines
+        self.places.extend(min(place, last) for place in range(first, first + len(lines)))
+        self.size += sum(map(len, lines)) + len(lines)
 
     def record(self, entry):
         """The lines of a record."""
@@ -165,7 +175,7 @@ class Importer(Reader):
         refuse(os.path.exists(real) and not os.path.isfile(real), f"{tokens[1]} is not a plain file")
         text = self.reads(real, tokens[1])
         if origin != before:
-            self.add([f"$ORIGIN {origin}"], place)
+            self.add([f"$ORIGIN {origin}"], place, place)
         self.origin = origin
         self.read(text, real if os.path.isabs(by) else os.path.relpath(real), (*stack, real))
         changed, self.origin, self.owner, self.restate = self.origin != before, before, owner, True

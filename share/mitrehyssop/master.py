@@ -37,9 +37,11 @@ FORMS = {"\0\0\0\2": BIND.format("raw"), "\0\0\0\3": BIND.format("map"), "\xff\x
 # The beginning of a line that looks like an entry.
 BEGIN = re.compile(r"\$[A-Z]+[ \t]|(?:[^ \t;\"()][^ \t;\"()]*)?[ \t]+(?:(?:\d[\dwdhms]*|IN)[ \t]+){0,2}(?:TYPE\d+|"
                    + "|".join([*KINDS, *OTHERS, "DS"]) + r")[ \t(]", re.I)
-# A line that is a whole entry of plain tokens, as most are.
+# A line that is a whole entry of plain tokens and strings, as most are: its owner, TTL, type and data.
 PLAIN = r"[!#%-'*-:<-?A-\[\]-~]+"
-QUICK = re.compile(rf"({PLAIN})?[ \t]+(?:(\d+)[ \t]+)?(?:IN[ \t]+)?(A|AAAA|NS|CNAME|MX|PTR|SRV)[ \t]+({PLAIN}(?:[ \t]+{PLAIN}){{0,3}})")
+TOKEN = rf'(?:{PLAIN}|"[ !#-\[\]-~]*")'
+QUICK = re.compile(rf"({PLAIN})?[ \t]+(?:(\d[\dwdhms]*)[ \t]+)?(?:IN[ \t]+)?(A|AAAA|NS|CNAME|MX|PTR|SRV|TXT)[ \t]+"
+                   rf"({TOKEN}(?:[ \t]+{TOKEN}){{0,3}})[ \t\r]*(?:;.*)?")
 LARGEST = 16777216  # the most octets of a file; one more is read, to see whether there are more
 # The most lines of a file, octets of a line, pieces of an entry and of a file, so that they do not take too much memory and time.
 LINES, LONGEST, LARGE_ENTRY, PIECES = 1000000, 1000000, 500000, 3000000
@@ -239,12 +241,13 @@ class Reader:
     """Reads the entries of a zone in order, and keeps what a later entry can inherit: `origin`, `owner` and TTLs.
 
     `at` is the next line, `begun` the line of the last entry, `default` the TTL of the last $TTL, and `stated` the last TTL that a
-    record stated. `pieces` is how many pieces were read. `lost`: whether an owner is not a name.
+    record stated. `pieces` is how many pieces were read. `lost`: whether an owner is not a name. If `wanted` has owners, records of
+    others may be left out.
     """
 
-    def __init__(self, zone):
+    def __init__(self, zone, wanted=()):
         self.origin, self.at, self.owner, self.default, self.stated, self.pieces = zone, 0, None, None, None, 0
-        self.begun, self.lost = 0, False
+        self.begun, self.lost, self.wanted = 0, False, wanted
 
     def entry(self, lines, at, nested=False):
         """The entry that begins at a line. Raises `Refused` if all entries together are too large."""
@@ -256,26 +259,23 @@ class Reader:
     def records(self, lines, stop=sys.maxsize):
         """Yields the records of all entries that begin before line `stop`, if it is given up to one that is not closed."""
         while self.at < min(stop, len(lines)):
-            if lines[self.at][:1] in ("", ";"):
-                self.at += 1
-                continue
-            self.begun = self.at
             if quick := QUICK.fullmatch(lines[self.at]):
-                yield self.quickly(*quick.groups())
-                continue
-            entry = self.entry(lines, self.at)
-            self.at, record = entry.end, self.take(entry)
-            if record:
-                yield record
-            if not entry.closed and stop < sys.maxsize:
-                return
-
-    def quickly(self, owner, ttl, rtype, data):
-        """The record of a line that is a whole entry of plain tokens."""
-        self.owner = owner and name(owner, self.origin) or self.owner
-        self.stated, self.at, self.pieces = ttl or self.stated, self.at + 1, self.pieces + 8
-        tokens = data.split()
-        return Record(self.owner, ttl or self.default or self.stated, rtype, self.fields(rtype, tokens), self.at - 1, tokens[-1])
+                owner, ttl, rtype, data = quick.groups()
+                self.begun, self.at = self.at, self.at + 1
+                self.owner, self.stated = owner and name(owner, self.origin) or self.owner, ttl or self.stated
+                if not self.wanted or self.owner in self.wanted:
+                    tokens = re.findall(TOKEN, data)
+                    ttl = ttl or self.default or self.stated
+                    yield Record(self.owner, ttl, rtype, self.fields(rtype, tokens), self.begun, tokens[-1])
+            elif lines[self.at][:1] in ("", ";"):
+                self.at += 1
+            else:
+                entry = self.entry(lines, self.at)
+                self.begun, self.at, record = self.at, entry.end, self.take(entry)
+                if record:
+                    yield record
+                if not entry.closed and stop < sys.maxsize:
+                    return
 
     def fields(self, rtype, tokens):
         """Data in the form of the canonical text. Fields that are faulty, or of other types, stay as they are."""
