@@ -228,9 +228,9 @@ class Zone:
         where = [f"line {line}" + f" of {file}" * (file != self.path) for file, line in places]
         return " and ".join(where) or "the same line"
 
-    def model(self):
-        """The records with their lines."""
-        return list(Reader(self.zone).records(self.lines)) if self.passes else self.records
+    def model(self, owners):
+        """The records with their lines, at least those of these owners."""
+        return Reader(self.zone, owners).records(self.lines) if self.passes else self.records
 
     def report(self, found, severity):
         """These faults, warnings and notes with their lines, as far as they have a severity."""

@@ -126,12 +126,17 @@ def name(text, origin):
         return None
 
 
+def parent(full):
+    """The name above an absolute name that is not the root."""
+    return (re.sub(r"(?:[^.\\]|\\.)*\.", "", full, 1) if "\\" in full else full.partition(".")[2]) or "."
+
+
 def above(full):
     """Yields an absolute name, and the names above it up to the root."""
-    while full:
+    while full != ".":
         yield full
-        rest = re.sub(r"(?:[^.\\]|\\.)*\.", "", full, 1) if "\\" in full else full.partition(".")[2]
-        full = rest or "." * (full != ".")
+        full = parent(full)
+    yield "."
 
 
 def within(full, zone):
@@ -310,7 +315,7 @@ class Names:
     """The records of a zone by owner and type, and its cuts. `of` is a `Zone` of faults.py, and `zone` the zone's name."""
 
     def __init__(self, zone, records):
-        self.of, self.zone, self.sets = zone, zone.zone, collections.defaultdict(dict)
+        self.of, self.zone, self.records, self.sets = zone, zone.zone, records, collections.defaultdict(dict)
         for record in records:
             self.sets[record.owner].setdefault(record.rtype, []).append(record)
         self.cuts = {cut for cut, sets in self.sets.items() if "NS" in sets and within(cut, self.zone)} - {self.zone}
@@ -322,23 +327,24 @@ class Names:
 
     def cut(self, full):
         """The highest cut that is equal to the name or above it, or None."""
-        found = [cut for cut in above(full) if cut in self.cuts] if self.cuts else []
-        return found[-1] if found else None
+        if not self.cuts or full == self.zone or not within(full, self.zone):
+            return None
+        return self.cut(parent(full)) or (full if full in self.cuts else None)
 
     @functools.cached_property
     def nodes(self):
         """The names that exist, in order: owners of records, and the names above them up to the root."""
-        nodes = {}
-        for full in self.sets:
-            for node in above(full):
-                if node in nodes:
-                    break
-                nodes[node] = True
+        nodes, level = {}, self.sets
+        while level:
+            nodes.update(dict.fromkeys(level, True))
             refuse(len(nodes) > MOST_NODES, f"more than {MOST_NODES:,} names own records or are above such names")
+            level = {above: True for full in level if full != "." and (above := parent(full)) not in nodes}
         return nodes
 
     def covering(self, full):
         """The name; or, if it does not exist, the wildcard that covers it."""
+        if full in self.sets:
+            return full
         closest = next(node for node in above(full) if node in self.nodes)
         return full if full == closest else "*." + closest.lstrip(".")
 

@@ -10,6 +10,8 @@ from master import Names, above, address, octets, twice, unique, within
 
 HOST = re.compile(r"(?:\*\.)?(?:[a-z0-9](?:[a-z0-9-]*[a-z0-9])?\.)+|(?:.*\.)?gc\._msdcs\..*")
 FOUR = re.compile(r"\d+\.\d+\.\d+\.\d+\.")
+# The names of hosts and services, as most are, of which no warning can be.
+USUAL = re.compile(r"(?!\d+\.\d+\.\d+\.\d+\.)(?:[a-z0-9](?:[a-z0-9-]*[a-z0-9])?\.)+")
 # Names below in-addr.arpa and ip6.arpa, except those whose labels have other signs, as for delegations; and names of
 # addresses.
 REVERSE = re.compile(r"(?:\w\.)*ip6\.arpa\.|(?:\d+\.)*in-addr\.arpa\.")
@@ -23,11 +25,6 @@ TEXTS = {"v=DMARC1": (r"_dmarc\.|.*\._report\._dmarc\.", "_dmarc", "p="),
          "v=BIMI1": (r".+\._bimi\.", "NAME._bimi", "l="), "v=spf1": ("", "", "")}
 POLICY = (".", "*.", "rpz-passthru.", "rpz-drop.", "rpz-tcp-only.")  # targets that mean actions in response policy zones
 LOWER = {kind.lower(): kind for kind in TEXTS}
-
-
-def kind_of(record):
-    """The key of TEXTS with which the text of a record begins, in upper or lower case; or None."""
-    return LOWER.get(re.split("[ ;]", octets(record.data[0]), 1)[0].lower())
 
 
 # The terms of an SPF text (RFC 7208 12), and the tags of a DMARC policy whose values are checked (RFC 7489 6.3).
@@ -63,6 +60,25 @@ def spf_faults(text):
         yield f"{count} terms need look-ups, but more than 10 make the text void"
 
 
+@functools.lru_cache(1 << 12)
+def meant(*strings):
+    """The key of TEXTS with which a text begins, in upper or lower case, or None; the text; and what is wrong with it at any name."""
+    parts = [octets(part) for part in strings]
+    whole, kind = "".join(parts), LOWER.get(re.split("[ ;]", parts[0], 1)[0].lower())
+    tags = dict(tag.strip().split("=", 1) for tag in whole.split(";") if "=" in tag) if kind == "v=DMARC1" else {}
+    bad = [tag for tag, value in tags.items() if not re.fullmatch(DMARC.get(tag.strip().lower(), ".*"), value.strip(), re.I)]
+    hidden = re.match(r"[\s\"']+(v=(?:spf1|DMARC1|DKIM1)\b)", parts[0], re.I)
+    joined = any(a and b and a[-1] != " " != b[0] and len(a) < 250 for a, b in zip(parts, parts[1:]))
+    return kind, whole, [row for row in (
+        *(("W56", True, says) for says in (spf_faults(whole) if kind == "v=spf1" else ())),
+        ("W57", bad, f"{bad[:1] and bad[0]}={bad and tags[bad[0]]} is not valid in a DMARC policy"),
+        ("W54", hidden, f"the text begins with {whole[:1]!r} and not with {hidden and hidden[1]}, so it means nothing"),
+        ("W54", not kind and re.match(r"(?i)(v=spf\d*|spf1)(?![\w.])", parts[0]), "an SPF text begins with v=spf1 and a space"),
+        ("W52", kind == "v=spf1" and joined,
+         "the strings of the SPF text are joined without a space: write one string, or end each with a space"),
+        ("W55", re.match("\u00e2\u0080[\u0098-\u009f]", whole), "the text begins with a curly quotation mark")) if row[1]]
+
+
 def caa_fault(data):
     """What is wrong with the octets of a CAA record (RFC 8659 4)."""
     tag, value = data[2:2 + data[1]].decode("latin-1").lower(), data[2 + data[1]:].decode("latin-1")
@@ -95,29 +111,30 @@ class Warnings(Names):
     def __init__(self, zone):
         super().__init__(zone, zone.records if zone.passes else unique(zone.records))
         self.arpa = self.zone.endswith("arpa.")
-        self.ends = tuple(end + self.zone for end in (".com.", ".org.", ".arpa."))
+        self.doubled = tuple(end + self.zone for end in (".com.", ".org.", ".arpa.", self.zone))
         last = self.zone.split(".")[-2:-1]
         self.again = f".{self.zone}{last[0]}." if last and last[0] else "\0"
         self.dotless = (self.again, "." + self.zone + self.zone) if self.zone != "." else "\0"
         # A catalog zone (RFC 9432) has a TTL of 0 on purpose.
         self.catalog = bool(self.at("version." + self.zone, "TXT"))
         # In a response policy zone owners are names and addresses of others on purpose.
-        self.policy = any(record.data[0] in POLICY for sets in self.sets.values() for record in sets.get("CNAME", ())
-                          if record.data) or any(".rpz-" in full for full in self.sets)
-        self.glue = {record.data[0] for sets in self.sets.values() for record in sets.get("NS", ())}
+        self.policy = ".rpz-" in "\n".join(self.sets) or any(
+            record.data[:1] and record.data[0] in POLICY for record in self.records if record.rtype == "CNAME")
+        self.glue = {record.data[0] for record in self.records if record.rtype == "NS"}
 
     def alias(self, full):
         """As in Names, but a name that does not exist has the alias of the wildcard that covers it."""
-        source = self.covering(full)
-        return self.at(source, "CNAME") if within(full, self.zone) and (source == full or not self.cut(full)) else []
+        source = self.covering(full) if within(full, self.zone) else None
+        return self.at(source, "CNAME") if source == full or not self.cut(full) else []
 
     def look(self):
-        looks = {"SOA": self.soa, "TXT": self.text, **dict.fromkeys(("NS", "CNAME", "PTR", "MX", "SRV"), self.target),
+        looks = {"SOA": self.soa, "TXT": self.text, "A": self.address, "AAAA": self.address, **dict.fromkeys(("NS", "CNAME", "PTR", "MX", "SRV"), self.target),
                  **dict.fromkeys(RAW, self.raw)}
         for full, sets in self.sets.items():
             if not within(full, self.zone):
                 continue
-            yield from self.owner(full, sets)
+            if not USUAL.fullmatch(full) or full.endswith(self.doubled) or "SRV" in sets or self.arpa or self.cut(full):
+                yield from self.owner(full, sets)
             for rtype, records in sets.items():
                 look = looks.get(rtype)
                 for record in records:
@@ -141,7 +158,7 @@ class Warnings(Names):
 
     def owner(self, full, sets):
         record, hosts = next(iter(sets.values()))[0], sets.get("A") or sets.get("AAAA") or ()
-        doubled = not self.policy and (twice(full, self.zone) or full.endswith(self.ends))
+        doubled = not self.policy and (twice(full, self.zone) or full.endswith(self.doubled[:3]))
         if "\\@" in full:
             yield record, "W34", "SRV" not in sets, "@ inside a name; it means the origin only if it is the whole name"
         if "*" in full:
@@ -154,12 +171,6 @@ class Warnings(Names):
         for pointer in (sets.get("PTR") or ())[:1] if self.arpa and not self.cut(full) else ():
             wrong = REVERSE.fullmatch(full) and not ADDRESS.fullmatch(full)
             yield pointer, "W37", wrong, f"{full} stands for no address"
-        for host in itertools.chain(sets.get("A", ()), sets.get("AAAA", ())):
-            if host.data and MAY_BE.match(host.data[0]) and not self.arpa and not self.policy and "localhost" not in full:
-                found = address(host.data[0])
-                net = found and next((net for net in UNUSABLE if ipaddress.ip_address(found[1]) in net), None)
-                yield host, "W48", net and not host.data[0].startswith("127.0.0.") * self.codes, \
-                    f"nobody can reach {host.data[0]} from elsewhere: it is in {net}"
         for srv in sets.get("SRV", ())[:1]:
             yield srv, "W36", not SERVICE.match(full), "the owner of SRV is not of the form _service._protocol"
             over = next((label for label in full.split(".")[1:3] if label[:1] == "_"), "_tcp")
@@ -176,11 +187,24 @@ class Warnings(Names):
     @functools.cached_property
     def codes(self):
         """Whether most addresses of the zone are codes such as 127.0.0.2, as in a DNSBL."""
-        hosts = [host.data[0] for sets in self.sets.values() for host in sets.get("A", ()) if host.data]
+        hosts = [host.data[0] for host in self.records if host.rtype == "A" and host.data]
         return sum(host.startswith("127.") for host in hosts) * 2 > len(hosts)
+
+    def address(self, record):
+        host, full = record.data[0] if record.data else "", record.owner
+        if not MAY_BE.match(host) or self.arpa or self.policy or "localhost" in full or not (found := address(host)):
+            return ()
+        net = next((net for net in UNUSABLE if ipaddress.ip_address(found[1]) in net), None)
+        is_code = self.codes and host.startswith("127.0.0.")
+        return [("W48", net and not is_code, f"nobody can reach {host} from elsewhere: it is in {net}")]
 
     def target(self, record):
         rtype, full, inside = record.rtype, record.data[-1], within(record.data[-1], self.zone)
+        types = self.sets.get(full, ())
+        yield "W38", rtype == "SRV" and full != "." and record.data[2] == "0", "the port is 0, at which no service listens"
+        if USUAL.fullmatch(full) and not full.endswith(self.dotless) and (
+                ("A" in types or "AAAA" in types) and "CNAME" not in types and not self.cut(full) if inside else full.count(".") > 1):
+            return  # a host with an address, or one elsewhere, as most targets are
         if rtype == "CNAME":
             end, chain = self.aliased(full, [record.owner], 20)  # 20 bounds the work here; the server follows at most 16.
             back = f"the alias leads back to {end}" if full != record.owner else "an alias to itself"
@@ -189,12 +213,7 @@ class Warnings(Names):
         null = full == "." and len(self.at(record.owner, rtype)) > 1
         yield "W46", null and rtype == "MX", "a null MX, which says that the name takes no mail, beside other MX records"
         yield "W46", null and rtype == "SRV", "the target . says that there is no such service, beside other SRV records"
-        yield "W38", rtype == "SRV" and full != "." and record.data[2] == "0", "the port is 0, at which no service listens"
         yield "W48", full == "localhost." and rtype != "PTR", "localhost. is the own host of each client"
-        types = self.sets.get(full, ())
-        if inside and ("A" in types or "AAAA" in types) and HOST.fullmatch(full) and not FOUR.match(full) \
-                and not full.endswith(self.dotless) and not (self.cuts and self.cut(full)):
-            return  # a host with an address, as most targets are
         cut, source = self.cut(full), self.covering(full)
         # A server in the zone without an address is a fault (Z10), so there is no warning.
         if full == "." or rtype == "NS" and inside and not cut and not self.at(full, "A", "AAAA"):
@@ -237,39 +256,30 @@ class Warnings(Names):
             ("W04", minimum > 86400, f"by the last number, {minimum}, resolvers may miss a new name for more than a day")]
 
     def text(self, record):
-        parts, owner, kind = [octets(part) for part in record.data], record.owner, kind_of(record)
-        whole, dkim = "".join(parts), re.match(TEXTS["v=DKIM1"][0], owner)
-        dmarc, spf = owner.startswith("_dmarc."), kind == "v=spf1"
+        kind, whole, rows = meant(*record.data)
+        owner, spf, several = record.owner, kind == "v=spf1", self.sets[record.owner]["TXT"]
+        yield from rows
+        yield "W51", kind and len(several) > 1 and kind != "v=DKIM1" and sum(meant(*one.data)[0] == kind for one in several) > 1, \
+            f"more than one text of {kind} at a name: none of them applies"
+        if "_" not in owner and (spf or not kind):
+            return
+        dkim, dmarc = re.match(TEXTS["v=DKIM1"][0], owner), owner.startswith("_dmarc.")
         names, example, needed = TEXTS.get(kind, ("", "", "p=" if dkim else ""))
-        several = kind and kind != "v=DKIM1" and sum(kind_of(other) == kind for other in self.at(owner, "TXT")) > 1
-        joined = any(a and b and a[-1] != " " != b[0] and len(a) < 250 for a, b in zip(parts, parts[1:]))
         lost, elsewhere = needed not in whole.lower() and "._report._dmarc." not in owner, not re.match(names, owner)
         begun = spf or not kind or whole.startswith(kind) and whole[len(kind):].lstrip()[:1] in ("", ";")
-        tags = dict(tag.strip().split("=", 1) for tag in whole.split(";") if "=" in tag) if kind == "v=DMARC1" else {}
         key = re.search(r"(?:^|;)\s*p=([^;]*)", whole) if dkim else None
-        bad = [tag for tag, value in tags.items() if not re.fullmatch(DMARC.get(tag.strip().lower(), ".*"), value.strip(), re.I)]
-        hidden = re.match(r"[\s\"']+(v=(?:spf1|DMARC1|DKIM1)\b)", parts[0], re.I)
-        rows = [("W56", True, says) for says in (spf_faults(whole) if spf else ())]
-        return rows + [
-            ("W57", key and not BASE64.fullmatch(re.sub(r"\s", "", key[1])), "p= is not a key in base64"),
-            ("W57", bad, f"{bad[:1] and bad[0]}={bad and tags[bad[0]]} is not valid in a DMARC policy"),
-            ("W54", hidden, f"the text begins with {whole[:1]!r} and not with {hidden and hidden[1]}, so it means nothing"),
-            ("W54", not kind and re.match(r"(?i)(v=spf\d*|spf1)(?![\w.])", parts[0]), "an SPF text begins with v=spf1 and a space"),
-            ("W51", several, f"more than one text of {kind} at a name: none of them applies"),
-            ("W52", spf and joined,
-             "the strings of the SPF text are joined without a space: write one string, or end each with a space"),
-            ("W53", lost, f"the text lacks {needed}; is it cut off at a ; without quotation marks?"),
-            ("W54", spf and (dmarc or "._domainkey." in owner), "an SPF text means nothing at this name"),
-            ("W54", elsewhere, f"this text means nothing at this name: write it at {example}"),
-            ("W54", not (begun or elsewhere), f"the text means nothing unless it begins with {kind} and a semicolon"),
-            ("W54", not kind and dmarc, "the text is no DMARC policy: it begins with v=DMARC1 and a semicolon"),
-            ("W55", re.match("\u00e2\u0080[\u0098-\u009f]", whole), "the text begins with a curly quotation mark")]
+        yield "W57", key and not BASE64.fullmatch(re.sub(r"\s", "", key[1])), "p= is not a key in base64"
+        yield "W53", lost, f"the text lacks {needed}; is it cut off at a ; without quotation marks?"
+        yield "W54", spf and (dmarc or "._domainkey." in owner), "an SPF text means nothing at this name"
+        yield "W54", elsewhere, f"this text means nothing at this name: write it at {example}"
+        yield "W54", not (begun or elsewhere), f"the text means nothing unless it begins with {kind} and a semicolon"
+        yield "W54", not kind and dmarc, "the text is no DMARC policy: it begins with v=DMARC1 and a semicolon"
 
 
 def warnings(zone):
     """The warnings about a checked zone, in the order of their lines."""
     found, lines = [row for row in Warnings(zone).look() if row[2]], {}
-    for record in zone.model() if found else ():
+    for record in zone.model({row[0].owner for row in found}) if found else ():
         lines.setdefault((record.owner, record.rtype), record.line)
         lines.setdefault((record.owner, record.rtype, *record.data), record.line)
 
