@@ -35,8 +35,8 @@ BIND = "the file is in the {0} format of BIND: `named-compilezone -f {0} -F text
 UTF16 = "the file is UTF-16: `iconv -f UTF-16 -t UTF-8 FILE` writes it in octets"
 FORMS = {"\0\0\0\2": BIND.format("raw"), "\0\0\0\3": BIND.format("map"), "\xff\xfe": UTF16, "\xfe\xff": UTF16}
 # The beginning of a line that looks like an entry.
-BEGIN = re.compile(r"\$[A-Z]+[ \t]|(?:[^ \t;\"()][^ \t;\"()]*)?[ \t]+(?:(?:\d[\dwdhms]*|IN)[ \t]+){0,2}(?:TYPE\d+|"
-                   + "|".join([*KINDS, *OTHERS, "DS"]) + r")[ \t(]", re.I)
+BEGIN = (r"(?i)\$[A-Z]+[ \t]|(?:[^ \t;\"()][^ \t;\"()]*)?[ \t]+(?:(?:\d[\dwdhms]*|IN)[ \t]+){0,2}(?:TYPE\d+|"
+         + "|".join([*KINDS, *OTHERS, "DS"]) + r")[ \t(]")
 # A line that is a whole entry of plain tokens and strings, as most are: its owner, TTL, type and data.
 PLAIN = r"[!#%-'*-:<-?A-\[\]-~]+"
 TOKEN = rf'(?:{PLAIN}|"[ !#-\[\]-~]*")'
@@ -189,7 +189,7 @@ class Entry:
         self.closed = self.read(lines, len(lines), nested) <= 0
         if not self.closed:
             later = range(begin + 1, len(lines))
-            self.read(lines, next((at for at in later if BEGIN.match(lines[at])), len(lines)), True)
+            self.read(lines, next((at for at in later if re.match(BEGIN, lines[at])), len(lines)), True)
         self.places = [at for at, piece in enumerate(self.pieces) if piece[0] not in " \t\r\n();"]
         self.tokens = tokens = [self.pieces[at] for at in self.places]
         at = int(bool(tokens) and not self.blank)

@@ -70,7 +70,7 @@ class Remedy(Entry):
         rtype, text = address(token) or ("", "")
         if text:
             return f"no type before {token}: write {rtype} {text}"
-        owner = self.blank and token == self.tokens[0] and BEGIN.match(" ".join(self.tokens))
+        owner = self.blank and token == self.tokens[0] and re.match(BEGIN, " ".join(self.tokens))
         return owner and f"{token} is in the place of the {place}: an owner begins in the first column"
 
     def r01(self):
@@ -119,7 +119,7 @@ class Remedy(Entry):
         if self.line[:at].endswith('\\"'):
             return says + ', since \\" is a mark inside the string: write \\\\" for a backslash at its end'
         # If the closing mark is on a line before the next entry, the string goes on to that line.
-        near = itertools.takewhile(lambda at: not BEGIN.match(lines[at]), range(self.end, min(self.end + 60, len(lines))))
+        near = itertools.takewhile(lambda at: not re.match(BEGIN, lines[at]), range(self.end, min(self.end + 60, len(lines))))
         last = next((at for at in near if lines[at].replace('\\"', "").count('"') % 2), None)
         if self.closed and not self.depth and last:
             self.until = last

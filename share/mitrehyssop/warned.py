@@ -29,8 +29,8 @@ LOWER = {kind.lower(): kind for kind in TEXTS}
 
 # The terms of an SPF text (RFC 7208 12), and the tags of a DMARC policy whose values are checked (RFC 7489 6.3).
 DOMAIN = r"(?=[^ ]*[a-z%])[^ /,;:\"']+"
-SPF = re.compile(rf"(?i)[-+?~]?(?:all|include:{DOMAIN}|(?:a|mx)(?::{DOMAIN})?(?:/\d+)?(?://\d+)?|ptr(?::{DOMAIN})?|"
-                 rf"exists:{DOMAIN}|ip4:[\d./]+|ip6:[\da-f:./]+)|[a-z][\w.-]*={DOMAIN}")
+SPF = (rf"(?i)[-+?~]?(?:all|include:{DOMAIN}|(?:a|mx)(?::{DOMAIN})?(?:/\d+)?(?://\d+)?|ptr(?::{DOMAIN})?|"
+       rf"exists:{DOMAIN}|ip4:[\d./]+|ip6:[\da-f:./]+)|[a-z][\w.-]*={DOMAIN}")
 URIS = r"(?:\s*mailto:[^\s,!@]+@[^\s,!]+(?:![0-9]+[kmgt]?)?\s*(?:,|$))+"
 DMARC = {"p": "none|quarantine|reject", "sp": "none|quarantine|reject", "pct": r"\d\d?|100", "adkim": "[rs]", "aspf": "[rs]",
          "rua": URIS, "ruf": URIS}
@@ -45,7 +45,7 @@ def spf_faults(text):
     names = [term.lstrip("+-?~").lower() for term in terms]
     for term, name in zip(terms, names):
         try:
-            sound = SPF.fullmatch(term) and (name[:4] not in ("ip4:", "ip6:")
+            sound = re.fullmatch(SPF, term) and (name[:4] not in ("ip4:", "ip6:")
                                              or ipaddress.ip_network(name[4:], False).version == int(name[2]))
         except ValueError:
             sound = False

@@ -4,13 +4,12 @@ import re
 
 from master import Refused, dns_name, read, refuse
 
-NAMED = re.compile(r"(?:(?:db|pri|master|named)\.)?(.+?)(?:\.(?:zone|db|hosts|txt|signed|inc|dns|unsigned))*")
-ZONE_FILE = re.compile(r"(?:db|pri|master)\..+|.+\.(?:zone|db|hosts|dns)(?:\.signed)?")
-ORIGIN = re.compile(r"^\$ORIGIN[ \t]+(\S+\.)[ \t]*(?:;.*)?\r?$", re.I | re.M)
-SOA = re.compile(r"^(\S+\.)[ \t]+(?:\d\w*[ \t]+|IN[ \t]+){0,2}SOA[ \t]", re.I | re.M)
-TOKEN = re.compile(r"/\*.*?\*/|//[^\n]*|#[^\n]*|\"([^\"]*)\"|([{};]|[^\s{};\"]+)", re.S)
-PAIR = re.compile(r"^\s*(?:-\s+)?(zonesdir|storage|name|domain|zonefile|file)[ \t]*:[ \t]*\"?([^\"#\n]+?)\"?\s*(?:#.*)?$",
-                  re.M)
+NAMED = r"(?:(?:db|pri|master|named)\.)?(.+?)(?:\.(?:zone|db|hosts|txt|signed|inc|dns|unsigned))*"
+ZONE_FILE = r"(?:db|pri|master)\..+|.+\.(?:zone|db|hosts|dns)(?:\.signed)?"
+ORIGIN = r"(?im)^\$ORIGIN[ \t]+(\S+\.)[ \t]*(?:;.*)?\r?$"
+SOA = r"(?im)^(\S+\.)[ \t]+(?:\d\w*[ \t]+|IN[ \t]+){0,2}SOA[ \t]"
+TOKEN = r"(?s)/\*.*?\*/|//[^\n]*|#[^\n]*|\"([^\"]*)\"|([{};]|[^\s{};\"]+)"
+PAIR = r"(?m)^\s*(?:-\s+)?(zonesdir|storage|name|domain|zonefile|file)[ \t]*:[ \t]*\"?([^\"#\n]+?)\"?\s*(?:#.*)?$"
 
 
 def origin_of(text):
@@ -26,10 +25,10 @@ def origin_of(text):
 def guessed(path, text):
     """The origin of a file: its first $ORIGIN, or the owner of its SOA, if that is absolute; else from the name of the file."""
     head = text[:65536]
-    soa, origin = SOA.search(head), ORIGIN.search(head)
-    if origin or soa:
-        return min((found for found in (origin, soa) if found), key=re.Match.start)[1]
-    name = NAMED.fullmatch(os.path.basename(path))[1]
+    found = [match for pattern in (ORIGIN, SOA) if (match := re.search(pattern, head))]
+    if found:
+        return min(found, key=re.Match.start)[1]
+    name = re.fullmatch(NAMED, os.path.basename(path))[1]
     if re.fullmatch(r"(?:\d{1,3}\.){1,3}\d{1,3}", name):
         return ".".join(reversed(name.split("."))) + ".in-addr.arpa"
     return name
@@ -39,12 +38,12 @@ def in_folder(folder):
     """The zone files below a folder, in order."""
     for room, folders, files in os.walk(folder):
         folders[:] = sorted(name for name in folders if name[0] != ".")
-        yield from (os.path.join(room, name) for name in sorted(files) if ZONE_FILE.fullmatch(name))
+        yield from (os.path.join(room, name) for name in sorted(files) if re.fullmatch(ZONE_FILE, name))
 
 
 def in_named(text, path):
     """The primary zones of a named.conf, each with its file."""
-    tokens, folder = ["".join(found) for found in TOKEN.findall(text) if any(found)], os.path.dirname(path)
+    tokens, folder = ["".join(found) for found in re.findall(TOKEN, text) if any(found)], os.path.dirname(path)
     if "directory" in tokens:
         folder = tokens[tokens.index("directory") + 1]
     for begin in [at + 2 for at, token in enumerate(tokens) if token == "zone"]:
@@ -60,7 +59,7 @@ def in_named(text, path):
 def in_pairs(text, path):
     """The zones of an nsd.conf or a knot.conf, each with its file."""
     folder, origin = os.path.dirname(path), None
-    for key, value in PAIR.findall(text):
+    for key, value in re.findall(PAIR, text):
         if key in ("zonesdir", "storage"):
             folder = value
         elif key in ("name", "domain"):
