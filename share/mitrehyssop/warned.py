@@ -2,7 +2,6 @@
 import difflib
 import functools
 import ipaddress
-import itertools
 import re
 
 from faults import Fault
@@ -25,8 +24,6 @@ TEXTS = {"v=DMARC1": (r"_dmarc\.|.*\._report\._dmarc\.", "_dmarc", "p="),
          "v=BIMI1": (r".+\._bimi\.", "NAME._bimi", "l="), "v=spf1": ("", "", "")}
 POLICY = (".", "*.", "rpz-passthru.", "rpz-drop.", "rpz-tcp-only.")  # targets that mean actions in response policy zones
 LOWER = {kind.lower(): kind for kind in TEXTS}
-
-
 # The terms of an SPF text (RFC 7208 12), and the tags of a DMARC policy whose values are checked (RFC 7489 6.3).
 DOMAIN = r"(?=[^ ]*[a-z%])[^ /,;:\"']+"
 SPF = (rf"(?i)[-+?~]?(?:all|include:{DOMAIN}|(?:a|mx)(?::{DOMAIN})?(?:/\d+)?(?://\d+)?|ptr(?::{DOMAIN})?|"
@@ -62,7 +59,7 @@ def spf_faults(text):
 
 @functools.lru_cache(1 << 12)
 def meant(*strings):
-    """The key of TEXTS with which a text begins, in upper or lower case, or None; the text; and what is wrong with it at any name."""
+    """The key of TEXTS with which a text begins, in any case, or None; the text; and what is wrong with it at any name."""
     parts = [octets(part) for part in strings]
     whole, kind = "".join(parts), LOWER.get(re.split("[ ;]", parts[0], 1)[0].lower())
     tags = dict(tag.strip().split("=", 1) for tag in whole.split(";") if "=" in tag) if kind == "v=DMARC1" else {}
@@ -128,22 +125,25 @@ class Warnings(Names):
         return self.at(source, "CNAME") if source == full or not self.cut(full) else []
 
     def look(self):
-        looks = {"SOA": self.soa, "TXT": self.text, "A": self.address, "AAAA": self.address, **dict.fromkeys(("NS", "CNAME", "PTR", "MX", "SRV"), self.target),
+        """All rows that apply."""
+        hosts, targets = dict.fromkeys(("A", "AAAA"), self.address), ("NS", "CNAME", "PTR", "MX", "SRV")
+        looks = {"SOA": self.soa, "TXT": self.text, **hosts, **dict.fromkeys(targets, self.target),
                  **dict.fromkeys(RAW, self.raw)}
         for full, sets in self.sets.items():
             if not within(full, self.zone):
                 continue
             if not USUAL.fullmatch(full) or full.endswith(self.doubled) or "SRV" in sets or self.arpa or self.cut(full):
-                yield from self.owner(full, sets)
+                yield from (row for row in self.owner(full, sets) if row[2])
             for rtype, records in sets.items():
                 look = looks.get(rtype)
                 for record in records:
                     if record.ttl == "0" and not self.catalog:
                         yield record, "W06", True, "the TTL is 0: each question reaches the server"
                     if look and (rtype in RAW or record.data[:1] != ["\\#"]):
-                        for row in look(record):
-                            if row[1]:
-                                yield record, *row
+                        yield from ((record, *row) for row in look(record) if row[1])
+        yield from (row for row in self.servers() if row[2])
+
+    def servers(self):
         servers = self.at(self.zone, "NS") if "NS" not in self.of.doubtful.get(self.zone, ()) else []
         hosts = [{host.data[0] for host in self.at(server.data[0], "A", "AAAA")} for server in servers]
         for server in servers[:1]:
@@ -157,32 +157,27 @@ class Warnings(Names):
         yield code, says, says
 
     def owner(self, full, sets):
-        record, hosts = next(iter(sets.values()))[0], sets.get("A") or sets.get("AAAA") or ()
-        doubled = not self.policy and (twice(full, self.zone) or full.endswith(self.doubled[:3]))
-        if "\\@" in full:
-            yield record, "W34", "SRV" not in sets, "@ inside a name; it means the origin only if it is the whole name"
-        if "*" in full:
-            yield record, "W35", "*" in full.removeprefix("*."), "a * that is not the whole first label matches nothing"
-        if doubled:
-            yield record, "W31", True, f"the owner is {full}: is a final dot missing?"
-        elif not full.endswith(".arpa.") and not self.policy and FOUR.match(full):
-            # In a DNSBL (RFC 5782) owners are addresses on purpose, and the data is a code in the form of an address, 127.0.0.2.
-            yield record, "W32", not (hosts and hosts[0].data[0].startswith("127.")), f"the owner is an address: {full}"
-        for pointer in (sets.get("PTR") or ())[:1] if self.arpa and not self.cut(full) else ():
-            wrong = REVERSE.fullmatch(full) and not ADDRESS.fullmatch(full)
-            yield pointer, "W37", wrong, f"{full} stands for no address"
-        for srv in sets.get("SRV", ())[:1]:
-            yield srv, "W36", not SERVICE.match(full), "the owner of SRV is not of the form _service._protocol"
-            over = next((label for label in full.split(".")[1:3] if label[:1] == "_"), "_tcp")
-            near = over not in PROTOCOLS and difflib.get_close_matches(over, PROTOCOLS[:2], 1)
-            yield srv, "W36", near, f"the protocol {over} is not known: write {near and near[0]}"
-        for host in hosts[:1]:
-            if not HOST.fullmatch(full):
-                strange = "\\@" not in full and "*" not in full[1:] and not re.match(r"(?:a\.|mx\.)?_spf(?:_rate|_verify)?\.", full)
-                yield host, "W33", strange, f"{full} has an address, and an octet that host names do not have"
-            if self.cuts and (cut := self.cut(full)):
-                yield host, "W47", full not in self.glue, \
-                    f"an address at or below the delegation of {cut}, at a name that no NS record names: it is never served"
+        first, srv, pointer, host = (next(iter(found or ()), None) for found in (
+            next(iter(sets.values())), sets.get("SRV"), sets.get("PTR"), sets.get("A") or sets.get("AAAA")))
+        sign, star, cut = "\\@" in full, "*" in full.removeprefix("*."), self.cut(full)
+        doubled = twice(full, self.zone) or full.endswith(self.doubled[:3])
+        # In a DNSBL (RFC 5782) owners are addresses on purpose, and the data is a code in the form of an address, 127.0.0.2.
+        four = FOUR.match(full) and not (doubled or full.endswith(".arpa.") or host and host.data[0].startswith("127."))
+        odd = not (HOST.fullmatch(full) or sign or star or re.match(r"(?:a\.|mx\.)?_spf(?:_rate|_verify)?\.", full))
+        over = next((label for label in full.split(".")[1:3] if label[:1] == "_"), "_tcp")
+        near = difflib.get_close_matches(over, PROTOCOLS[:2], 1) if srv and over not in PROTOCOLS else []
+        return [
+            (first, "W34", sign and not srv, "@ inside a name; it means the origin only if it is the whole name"),
+            (first, "W35", star, "a * that is not the whole first label matches nothing"),
+            (first, "W31", doubled and not self.policy, f"the owner is {full}: is a final dot missing?"),
+            (first, "W32", four and not self.policy, f"the owner is an address: {full}"),
+            (pointer, "W37", pointer and self.arpa and not cut and REVERSE.fullmatch(full) and not ADDRESS.fullmatch(full),
+             f"{full} stands for no address"),
+            (srv, "W36", srv and not SERVICE.match(full), "the owner of SRV is not of the form _service._protocol"),
+            (srv, "W36", near, f"the protocol {over} is not known: write {''.join(near)}"),
+            (host, "W33", host and odd, f"{full} has an address, and an octet that host names do not have"),
+            (host, "W47", host and cut and full not in self.glue,
+             f"an address at or below the delegation of {cut}, at a name that no NS record names: it is never served")]
 
     @functools.cached_property
     def codes(self):
@@ -202,8 +197,8 @@ class Warnings(Names):
         rtype, full, inside = record.rtype, record.data[-1], within(record.data[-1], self.zone)
         types = self.sets.get(full, ())
         yield "W38", rtype == "SRV" and full != "." and record.data[2] == "0", "the port is 0, at which no service listens"
-        if USUAL.fullmatch(full) and not full.endswith(self.dotless) and (
-                ("A" in types or "AAAA" in types) and "CNAME" not in types and not self.cut(full) if inside else full.count(".") > 1):
+        host = ("A" in types or "AAAA" in types) and "CNAME" not in types and not self.cut(full)
+        if (host if inside else full.count(".") > 1) and USUAL.fullmatch(full) and not full.endswith(self.dotless):
             return  # a host with an address, or one elsewhere, as most targets are
         if rtype == "CNAME":
             end, chain = self.aliased(full, [record.owner], 20)  # 20 bounds the work here; the server follows at most 16.
@@ -214,18 +209,20 @@ class Warnings(Names):
         yield "W46", null and rtype == "MX", "a null MX, which says that the name takes no mail, beside other MX records"
         yield "W46", null and rtype == "SRV", "the target . says that there is no such service, beside other SRV records"
         yield "W48", full == "localhost." and rtype != "PTR", "localhost. is the own host of each client"
-        cut, source = self.cut(full), self.covering(full)
         # A server in the zone without an address is a fault (Z10), so there is no warning.
-        if full == "." or rtype == "NS" and inside and not cut and not self.at(full, "A", "AAAA"):
-            return
-        own = full[:-len(self.zone)] if inside else full
+        if full != "." and (rtype != "NS" or not inside or self.cut(full) or self.at(full, "A", "AAAA")):
+            yield from self.strange(record, full, inside)
+
+    def strange(self, record, full, inside):
+        """The first warning about a target that is no usual one."""
+        rtype, cut, source, own = record.rtype, self.cut(full), self.covering(full), full[:-len(self.zone)] if inside else full
         do = f"; write {own} if it is in another zone" if own.count(".") > 1 else ""
         four = FOUR.fullmatch(full) or inside and FOUR.match(full) and not self.arpa or ":" in own and address(own)
         host = rtype in ("NS", "MX", "SRV") or rtype == "PTR" and self.arpa
         server = rtype == "NS" and not self.at(full) and not (record.owner in self.cuts and within(full, record.owner))
         known = inside and not self.of.partial and full not in self.of.doubtful and self.of.named.isdisjoint(above(full))
         types = self.sets.get(source, {})
-        yield from [row for row in (
+        return [row for row in (
             ("W32", four, f"the target is an address: {full}; write the name of a host"),
             ("W41", re.search("[/:]", full) and rtype != "PTR" and not full.endswith(".arpa."),
              f"the target is a URL or has a port: {full}; write the name of the host"),
@@ -257,10 +254,10 @@ class Warnings(Names):
 
     def text(self, record):
         kind, whole, rows = meant(*record.data)
-        owner, spf, several = record.owner, kind == "v=spf1", self.sets[record.owner]["TXT"]
+        owner, spf, texts = record.owner, kind == "v=spf1", self.sets[record.owner]["TXT"]
         yield from rows
-        yield "W51", kind and len(several) > 1 and kind != "v=DKIM1" and sum(meant(*one.data)[0] == kind for one in several) > 1, \
-            f"more than one text of {kind} at a name: none of them applies"
+        several = kind and kind != "v=DKIM1" and len(texts) > 1 and sum(meant(*one.data)[0] == kind for one in texts) > 1
+        yield "W51", several, f"more than one text of {kind} at a name: none of them applies"
         if "_" not in owner and (spf or not kind):
             return
         dkim, dmarc = re.match(TEXTS["v=DKIM1"][0], owner), owner.startswith("_dmarc.")
@@ -278,10 +275,10 @@ class Warnings(Names):
 
 def warnings(zone):
     """The warnings about a checked zone, in the order of their lines."""
-    found, lines = [row for row in Warnings(zone).look() if row[2]], {}
+    found, lines = [*Warnings(zone).look()], {}
     for record in zone.model({row[0].owner for row in found}) if found else ():
-        lines.setdefault((record.owner, record.rtype), record.line)
-        lines.setdefault((record.owner, record.rtype, *record.data), record.line)
+        for key in ((record.owner, record.rtype), (record.owner, record.rtype, *record.data)):
+            lines.setdefault(key, record.line)
 
     def line(record):
         key = record.owner, record.rtype, *record.data
