@@ -5,9 +5,9 @@ NAMES = zonecheck zonefaults zoneserve dnsmsg zonesocket
 PROGRAMS = $(foreach name,$(NAMES),crates/$(name)/out/$(name))
 # What the programs are made from.
 SOURCES = $(shell find crates \( -name out -o -name must-fail -o -name edits -o -name tests \) -prune -o \( -name '*.rt' -o -name '*.antt' \) -print)
-# The scripts that are installed as programs, and the modules of the Python scripts with their tables.
+# The scripts that are installed as programs, and the modules of the Python scripts with what they read.
 SCRIPTS = $(wildcard bin/*)
-MODULES = $(wildcard share/mitrehyssop/*.py share/mitrehyssop/*.toml)
+MODULES = $(wildcard share/mitrehyssop/*.py share/mitrehyssop/*.toml) docs/CODES.md VERSION
 PAGES = $(wildcard man/*.1)
 DOC = $(DESTDIR)$(PREFIX)/share/doc/mitrehyssop
 SHARE = $(DESTDIR)$(PREFIX)/share/mitrehyssop

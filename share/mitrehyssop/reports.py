@@ -43,16 +43,21 @@ class Report(collections.namedtuple("Report", "file line column end_line end_col
 
 
 @functools.cache
-def explained(code):
-    """What CODES.md says of a code: the cells of its row in a table, each after its heading."""
+def page():
+    """The path of CODES.md where it is installed, or in the source; or None."""
+    return next((place for place in (SHARE / "CODES.md", SHARE.parents[1] / "docs" / "CODES.md") if place.exists()), None)
+
+
+@functools.cache
+def explained():
+    """What CODES.md says of each code: the cells of its row in a table, each after its heading."""
     rows, heads = {}, []
-    places = [SHARE / "CODES.md", SHARE.parents[1] / "docs" / "CODES.md"]
-    for line in next((place for place in places if place.exists()), Path(os.devnull)).read_text(encoding="utf-8").splitlines():
+    for line in page().read_text(encoding="utf-8").splitlines() if page() else ():
         cells = [cell.strip().replace("\\|", "|") for cell in re.split(r"(?<!\\)\|", line)[1:-1]]
         heads = cells if cells[:1] == ["Code"] else heads
         if cells and (found := re.fullmatch(r"`([A-Z]\d\d)`", cells[0])):
             rows[found[1]] = dict(zip(heads[1:], cells[1:]))
-    return rows.get(code, {})
+    return rows
 
 
 def fingerprints(found):
@@ -92,9 +97,10 @@ def positions(one):
 
 def sarif(found, version):
     codes, rules = sorted({one.code for one in found}), []
+    link = {"helpUri": page().as_uri()} if page() else {}  # No page is published, so this links to the installed one.
     for code in codes:
-        short, *others = explained(code).values() or [code]
-        rules.append({"id": code, "shortDescription": {"text": short}, "help": {"text": "\n".join([short, *others])}})
+        short, *others = explained().get(code, {}).values() or [code]
+        rules.append({"id": code, "shortDescription": {"text": short}, "help": {"text": "\n".join([short, *others])}, **link})
     results = [{
         "ruleId": one.code, "ruleIndex": codes.index(one.code), "level": one.severity, "message": {"text": one.said()},
         "partialFingerprints": {"zonelint/v1": print_of},
