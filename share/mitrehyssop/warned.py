@@ -5,7 +5,7 @@ import ipaddress
 import re
 
 from faults import Fault
-from master import Names, above, address, octets, twice, unique, within
+from master import Names, above, address, dns_name, octets, twice, unique, within
 
 HOST = re.compile(r"(?:\*\.)?(?:[a-z0-9](?:[a-z0-9-]*[a-z0-9])?\.)+|(?:.*\.)?gc\._msdcs\..*")
 FOUR = re.compile(r"\d+\.\d+\.\d+\.\d+\.")
@@ -50,6 +50,8 @@ def spf_faults(text):
             yield f"{term} is not a term of SPF, so the whole text is void"
     if "all" in names and not all(name.startswith("exp=") for name in names[names.index("all") + 1:]):
         yield "what stands after all is never used"
+    if "all" in names and "redirect=" in text.lower():
+        yield "redirect= is never used beside all"
     if any(term.lower() in ("+all", "all") for term in terms):
         yield "+all lets everybody send mail in this name"
     count = sum(bool(re.match(r"include:|a\b|mx\b|ptr\b|exists:|redirect=", name)) for name in names)
@@ -97,6 +99,7 @@ def digest_fault(data):
 
 # For each type that has no name in the canonical text: what looks at its octets, and the code of the warning.
 RAW = {"TYPE257": (caa_fault, "W58"), "TYPE52": (digest_fault, "W59"), "TYPE53": (digest_fault, "W59")}
+POINTERS = ("TYPE35", "TYPE64", "TYPE65")  # NAPTR, SVCB and HTTPS, which have a name in their octets
 PROTOCOLS = ("_tcp", "_udp", "_tls", "_sctp", "_dccp")
 # The beginnings of the texts of addresses in UNUSABLE: a quick test, since a zone may have 100,000 addresses.
 MAY_BE = re.compile(r"0\.|127\.|169\.254\.|22[4-9]\.|2[345]\d\.|::|f[ef]", re.I)
@@ -128,7 +131,7 @@ class Warnings(Names):
         """All rows that apply."""
         hosts, targets = dict.fromkeys(("A", "AAAA"), self.address), ("NS", "CNAME", "PTR", "MX", "SRV")
         looks = {"SOA": self.soa, "TXT": self.text, **hosts, **dict.fromkeys(targets, self.target),
-                 **dict.fromkeys(RAW, self.raw)}
+                 **dict.fromkeys(RAW, self.raw), **dict.fromkeys(POINTERS, self.pointer), "TYPE99": self.obsolete}
         for full, sets in self.sets.items():
             if not within(full, self.zone):
                 continue
@@ -139,7 +142,7 @@ class Warnings(Names):
                 for record in records:
                     if record.ttl == "0" and not self.catalog:
                         yield record, "W06", True, "the TTL is 0: each question reaches the server"
-                    if look and (rtype in RAW or record.data[:1] != ["\\#"]):
+                    if look and (rtype[:4] == "TYPE" or record.data[:1] != ["\\#"]):
                         yield from ((record, *row) for row in look(record) if row[1])
         yield from (row for row in self.servers() if row[2])
 
@@ -148,13 +151,31 @@ class Warnings(Names):
         hosts = [{host.data[0] for host in self.at(server.data[0], "A", "AAAA")} for server in servers]
         for server in servers[:1]:
             same = len(hosts) > 1 and 0 < len(hosts[0]) <= 2 and all(host == hosts[0] for host in hosts)
-            yield server, "W01", len(hosts) == 1, "the zone has only one server"
+            yield server, "W01", len(hosts) == 1 and not self.is_local(server), "the zone has only one server"
             yield server, "W05", same, f"all servers have the same address: {' and '.join(sorted(hosts[0]))}"
+
+    def is_local(self, record):
+        """Whether this is the server of a zone that a resolver has for itself, as of private addresses (RFC 6303)."""
+        return record.data[0] == "localhost." and (self.arpa or self.zone == "localhost.")
 
     def raw(self, record):
         data, (fault_of, code) = bytes.fromhex("".join(record.data[2:])), RAW[record.rtype]
         says = fault_of(data) if len(data) > 2 else None
         yield code, says, says
+
+    def pointer(self, record):
+        data, place = bytes.fromhex("".join(record.data[2:])), 2
+        try:
+            if record.rtype == "TYPE35":  # Two numbers and three strings are before the name (RFC 3403 4.1).
+                place = functools.reduce(lambda place, _: place + 1 + data[place], range(3), 4)
+            full = dns_name().from_wire(data, place)[0].canonicalize().to_text()
+        except Exception:  # The octets need not be of that form.
+            return []
+        return self.strange(record, full, within(full, self.zone)) if full != "." else []
+
+    def obsolete(self, record):
+        is_text = any(meant(*one.data)[0] == "v=spf1" for one in self.at(record.owner, "TXT"))
+        yield "W54", not is_text, "no receiver reads records of the type SPF (RFC 7208 3.1): write TXT"
 
     def owner(self, full, sets):
         first, srv, pointer, host = (next(iter(found or ()), None) for found in (
@@ -208,7 +229,8 @@ class Warnings(Names):
         null = full == "." and len(self.at(record.owner, rtype)) > 1
         yield "W46", null and rtype == "MX", "a null MX, which says that the name takes no mail, beside other MX records"
         yield "W46", null and rtype == "SRV", "the target . says that there is no such service, beside other SRV records"
-        yield "W48", full == "localhost." and rtype != "PTR", "localhost. is the own host of each client"
+        yield "W48", full == "localhost." and rtype != "PTR" and not self.is_local(record), \
+            "localhost. is the own host of each client"
         # A server in the zone without an address is a fault (Z10), so there is no warning.
         if full != "." and (rtype != "NS" or not inside or self.cut(full) or self.at(full, "A", "AAAA")):
             yield from self.strange(record, full, inside)
@@ -257,6 +279,8 @@ class Warnings(Names):
         owner, spf, texts = record.owner, kind == "v=spf1", self.sets[record.owner]["TXT"]
         yield from rows
         several = kind and kind != "v=DKIM1" and len(texts) > 1 and sum(meant(*one.data)[0] == kind for one in texts) > 1
+        yield "W56", spf and owner == self.zone and not re.search(r"(?i)\ball\b|redirect=", whole), \
+            "the SPF text refuses nobody: end it with -all or ~all"
         yield "W51", several, f"more than one text of {kind} at a name: none of them applies"
         if "_" not in owner and (spf or not kind):
             return
