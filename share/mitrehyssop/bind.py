@@ -1,5 +1,4 @@
 """Reads a zone file as BIND does, and writes its entries in zonecheck's form, each on its own lines."""
-import collections
 import os
 import re
 from array import array
@@ -39,14 +38,14 @@ class Importer(Reader):
     """Converts a file, and the files that it includes, to `lines`. `notes` says for each line that could not be converted
     why not. `sources` has the text of each file, and `places` the number of a file in `sources` and of a line there.
 
-    With `lints`, records of the types UNSERVED are left out: `passed` counts them by type, and `named` has the owners of DNAME.
+    With `lints`, records of the types UNSERVED are left out: `passed` has for each its owner, type and line.
     `folder` is where $INCLUDE looks for files; if it `maps`, absolute paths are looked for there too. `open` reads a file."""
 
     def __init__(self, zone, folder, lints=False, maps=False, reads=read):
         super().__init__(zone)
         self.folder, self.lines, self.places, self.notes, self.sources = os.path.realpath(folder), [], array("Q"), {}, {}
         self.lints, self.maps, self.reads = lints, maps, reads
-        self.passed, self.named, self.lost = collections.Counter(), set(), False
+        self.passed, self.lost = [], False
         # `restate`: whether the next record has to state its owner. `implied`: the TTL that records without one get from the
         # SOA record, or None. `size`: how many octets `lines` have. `count`: how many records were read. `files`: how many files
         # were included. `lost`: whether an included file could not be read. `written`: the owner of the last line, if it was not yet
@@ -120,8 +119,7 @@ class Importer(Reader):
         front = f"{self.owner} " if owner is None and self.restate and self.owner else ""
         record, rtype, self.restate = self.take(entry), NAMES.get(entry.rtype, entry.rtype), False
         if self.lints and rtype in UNSERVED:
-            self.passed[UNSERVED[rtype]] += 1
-            self.named |= {self.owner} if UNSERVED[rtype] == "DNAME" else set()
+            self.passed.append((self.owner, UNSERVED[rtype], len(self.lines)))
             self.restate = True
             return [""] * (entry.end - entry.begin)
         if owner and owner[0] == '"':

@@ -104,7 +104,7 @@ class Zone:
         self.origin, self.path, self.text, self.zone = origin, path, text, absolute(origin)
         made = importer or bind.Importer(self.zone, ".")
         self.places, self.notes, self.partial = made.places, made.notes, made.lost
-        self.passed, self.named = made.passed, made.named
+        self.passed = made.passed
         self.lines = made.lines or (text.split("\n") if text.startswith((*FORMS,)) else split(text, path))
         self.sources, self.lints, self.notes_found, self.fixes = made.sources or {path: text}, made.lints, [], set()
         self.faults, self.records, self.passes, self.more, self.doubtful = [], [], False, False, collections.defaultdict(set)
@@ -195,10 +195,11 @@ class Zone:
 
     def remarks(self):
         """The notes: limits that only zonecheck has, and records that were not checked."""
-        signed = {rtype: count for rtype, count in self.passed.items() if rtype != "DNAME"}
-        for kind, count, names in (("DNSSEC", sum(signed.values()), ", ".join(signed)), ("DNAME", self.passed.get("DNAME", 0), "")):
+        signed = [rtype for _, rtype, _ in self.passed if rtype != "DNAME"]
+        kinds = (f"DNSSEC ({', '.join(dict.fromkeys(signed))})", len(signed)), ("DNAME", len(self.passed) - len(signed))
+        for kind, count in kinds:
             if count:
-                says = f"{count} record{'s' * (count > 1)} of {kind}{f' ({names})' * bool(names)} {'were' if count > 1 else 'was'} not checked"
+                says = f"{count} record{'s' * (count > 1)} of {kind} {'were' if count > 1 else 'was'} not checked"
                 self.notes_found.append(Fault((self.path, 1), "N01", "", says + ": zoneserve does not serve them"))
         return self.notes_found
 

@@ -19,7 +19,7 @@ ESCAPES = re.compile(r"(?:[^\\]|\\(?:[01]\d\d|2[0-4]\d|25[0-5]|\D))*", re.S)
 STRING = re.compile(r'"(?:[^"\\]|\\.)*"', re.S)
 # For each type with data in base64: which tokens of its data these are. dnspython skips octets that are not base64.
 BASE64 = {"CERT": slice(3, None), "IPSECKEY": slice(4, None), "DHCID": slice(None), "HIP": slice(2, 3),
-          "CDNSKEY": slice(3, None), "OPENPGPKEY": slice(None)}
+          "KEY": slice(3, None), "CDNSKEY": slice(3, None), "OPENPGPKEY": slice(None)}
 # The octets of a fingerprint by its type (RFC 4255 3.1.2, RFC 6594 4).
 FINGERPRINTS = {1: 20, 2: 32}
 GROUPS = re.compile(r"[0-9a-fA-F]{1,4}(?::[0-9a-fA-F]{1,4}){3}")
@@ -73,7 +73,9 @@ def by_dnspython(rtype, entry, origin):
     """The octets of the data of an entry. Raises NotImplementedError if this dnspython does not read the type."""
     import dns.rdata  # This import takes longer than all others together, and most zones don't need it.
     import dns.version
-    number, tokens, alias = dns.rdatatype.from_text(NUMBERS.get(rtype, rtype)), entry.data[:], False
+    # KEY has the form of DNSKEY (RFC 2535 3.1), and dnspython does not read it by its name.
+    number = dns.rdatatype.from_text("DNSKEY" if rtype == "KEY" else NUMBERS.get(rtype, rtype))
+    tokens, alias = entry.data[:], False
     if dns.rdata.get_rdata_class(1, number) is dns.rdata.GenericRdata:
         raise NotImplementedError(f"dnspython {dns.version.version} does not read {rtype}: "
                                   "write \\#, a length and hex digits, or use a later one")
@@ -109,6 +111,7 @@ def generic(entry, rtype, origin):
             by_dnspython(rtype, entry, origin)
         if rtype == "NAPTR":
             refuse(not is_expression(octets(entry.data[4])), f"{entry.data[4]} is not an expression that BIND reads")
+        refuse(rtype == "NSAP" and not data, "the address is empty")
         size = FINGERPRINTS.get(data[1]) if rtype == "SSHFP" and len(data) > 2 else None
         refuse(size and len(data) != size + 2, f"such a fingerprint has {size} octets, and not {len(data) - 2}")
     except NotImplementedError as error:

@@ -120,6 +120,7 @@ class Warnings(Names):
         # In a response policy zone owners are names and addresses of others on purpose.
         self.policy = ".rpz-" in "\n".join(self.sets) or any(
             record.data[:1] and record.data[0] in POLICY for record in self.records if record.rtype == "CNAME")
+        self.dnames = {owner for owner, rtype, _ in zone.passed if rtype == "DNAME"}
         self.glue = {record.data[0] for record in self.records if record.rtype == "NS"}
 
     def alias(self, full):
@@ -242,7 +243,7 @@ class Warnings(Names):
         four = FOUR.fullmatch(full) or inside and FOUR.match(full) and not self.arpa or ":" in own and address(own)
         host = rtype in ("NS", "MX", "SRV") or rtype == "PTR" and self.arpa
         server = rtype == "NS" and not self.at(full) and not (record.owner in self.cuts and within(full, record.owner))
-        known = inside and not self.of.partial and full not in self.of.doubtful and self.of.named.isdisjoint(above(full))
+        known = inside and not self.of.partial and full not in self.of.doubtful and self.dnames.isdisjoint(above(full))
         types = self.sets.get(source, {})
         return [row for row in (
             ("W32", four, f"the target is an address: {full}; write the name of a host"),
@@ -308,6 +309,13 @@ def warnings(zone):
         key = record.owner, record.rtype, *record.data
         return lines.get(key, lines.get(key[:2], 0)) if record.line is None else record.line
     faults = {Fault(zone.place(line(record)), code, record.owner, says): None for record, code, _, says in found}
+    aliases = {record.owner for record in zone.records if record.rtype == "CNAME"}
+    for owner, rtype, at in zone.passed:
+        if owner in aliases and rtype not in ("RRSIG", "NSEC"):  # These may be beside a CNAME (RFC 4034 3, 4).
+            faults[Fault(zone.place(at), "Z06", owner, f"{rtype} at the name of a CNAME: keep one of them")] = None
+        if (owner, rtype) == (zone.zone, "DS"):
+            says = "a DS record at the origin: write it into the zone above"
+            faults[Fault(zone.place(at), "Z12", owner, says)] = None
     end = zone.sources[zone.path].rpartition("\n")
     if end[2][:1] == "$":
         says = "BIND refuses a directive on a last line that has no line end"
