@@ -103,8 +103,7 @@ class Zone:
     def __init__(self, origin, text, path, importer=None):
         self.origin, self.path, self.text, self.zone = origin, path, text, absolute(origin)
         made = importer or bind.Importer(self.zone, ".")
-        self.places, self.notes, self.partial = made.places, made.notes, made.lost
-        self.passed = made.passed
+        self.places, self.notes, self.partial, self.passed = made.places, made.notes, made.lost, made.passed
         self.lines = made.lines or (text.split("\n") if text.startswith((*FORMS,)) else split(text, path))
         self.sources, self.lints, self.notes_found, self.fixes = made.sources or {path: text}, made.lints, [], set()
         self.faults, self.records, self.passes, self.more, self.doubtful = [], [], False, False, collections.defaultdict(set)
@@ -115,10 +114,10 @@ class Zone:
         status, said = ask("zonecheck", self.origin, self.text, "--print")
         if status == 0:
             # The canonical text has a record on each line.
-            rows = (line.split(" ", 4) for line in said.splitlines())
-            self.records = [Record(owner, ttl, rtype, FIELD.findall(data) if '"' in data or "\\" in data else data.split(" "))
-                            for owner, ttl, _, rtype, data in rows]
-            self.passes = True
+            for owner, ttl, _, rtype, data in (line.split(" ", 4) for line in said.splitlines()):
+                data = FIELD.findall(data) if '"' in data or "\\" in data else data.split(" ")
+                self.records.append(Record(owner, ttl, rtype, data))
+        self.passes = status == 0
         return self.passes
 
     def check(self):

@@ -1,7 +1,6 @@
 """How faults, warnings and notes are written: as text, and in the formats of editors and CI systems."""
 import collections
 import functools
-import itertools
 import json
 import os
 import re
@@ -126,9 +125,8 @@ FORMATS = {
         for one, print_of in zip(found, fingerprints(found))]),
     "sarif": sarif,
     "checkstyle": lambda found, _: '<?xml version="1.0" encoding="UTF-8"?>\n<checkstyle version="4.3">\n' + "".join(
-        f'<file name="{plain(file).translate(XML)}">\n' + "".join(
-            "<error " + "".join(f'{key}="{value}" ' for key, value in span(one, "line", "column").items())
-            + f'severity="{one.severity.replace("note", "info")}" source="zonelint.{one.code}" '
-            f'message="{f"{one.code}: {one.said()}".translate(XML)}"/>\n' for one in reports) + "</file>\n"
-        for file, reports in itertools.groupby(found, lambda one: one.file)) + "</checkstyle>\n",
+        f'<file name="{plain(one.file).translate(XML)}"><error '
+        + "".join(f'{key}="{value}" ' for key, value in span(one, "line", "column").items())
+        + f'severity="{one.severity.replace("note", "info")}" source="zonelint.{one.code}" '
+        f'message="{f"{one.code}: {one.said()}".translate(XML)}"/></file>\n' for one in found) + "</checkstyle>\n",
 }
