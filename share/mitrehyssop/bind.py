@@ -46,10 +46,10 @@ class Importer(Reader):
         self.folder, self.lines, self.places, self.notes, self.sources = os.path.realpath(folder), [], array("Q"), {}, {}
         self.lints, self.maps, self.reads = lints, maps, reads
         self.passed, self.lost = [], False
-        # `restate`: whether the next record has to state its owner. `implied`: the TTL that records without one get from the
-        # SOA record, or None. `size`: how many octets `lines` have. `count`: how many records were read. `files`: how many files
-        # were included. `lost`: whether an included file could not be read. `written`: the owner of the last line, if it was not yet
-        # put into `owner`.
+        # `restate`: whether the next record has to state its owner. `implied`: the TTL that records without one get from
+        # the SOA record, or None. `size`: how many octets `lines` have. `count`: how many records were read. `files`: how
+        # many files were included. `lost`: whether an included file could not be read. `written`: the owner of the last
+        # line, if it was not yet put into `owner`.
         self.restate, self.implied, self.size, self.count, self.files, self.written = False, None, 0, 0, 0, None
 
     def read(self, text, path, stack=()):
@@ -93,7 +93,7 @@ class Importer(Reader):
             at = entry.end
 
     def quick(self, line):
-        """The converted line if it is an entry of which only the TTL may have to be converted, as most are, or has no entry; else None.
+        """The converted line if it has no entry, or one of which at most the TTL is converted, as most are; else None.
         If so, the entry is read."""
         if line[:1] in ("", ";"):
             return line

@@ -12,7 +12,7 @@ from reports import plain
 
 
 def fixed(zone, path, text, found):
-    """The lines of a file with the remedies that are sure: those of `fixes`, and the final dots of names that end with the zone's."""
+    """The lines of a file with the remedies that are sure: those of `fixes`, and missing final dots."""
     lines = text.split("\n")
     for file, line, begin, end, new in sorted(zone.fixes, reverse=True):
         if file == path:

@@ -245,9 +245,9 @@ class Entry:
 class Reader:
     """Reads the entries of a zone in order, and keeps what a later entry can inherit: `origin`, `owner` and TTLs.
 
-    `at` is the next line, `begun` the line of the last entry, `default` the TTL of the last $TTL, and `stated` the last TTL that a
-    record stated. `pieces` is how many pieces were read. `lost`: whether an owner is not a name. If `wanted` has owners, records of
-    others may be left out.
+    `at` is the next line, `begun` the line of the last entry, `default` the TTL of the last $TTL, and `stated` the last
+    TTL that a record stated. `pieces` is how many pieces of entries were read that are not plain lines. `lost`: whether
+    an owner is not a name. If `wanted` has owners, plain lines of others are left out.
     """
 
     def __init__(self, zone, wanted=()):
