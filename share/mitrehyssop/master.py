@@ -8,7 +8,6 @@ import functools
 import ipaddress
 import os
 import re
-import socket
 import stat
 import sys
 
@@ -64,9 +63,12 @@ def digits(token):
 def groups(token):
     """An IPv6 address in the form of the canonical text, in hex digits alone. None if the token is not an IPv6 address."""
     try:
-        return str(ipaddress.IPv6Address(socket.inet_pton(socket.AF_INET6, token)))
-    except (OSError, ValueError):
+        found = ipaddress.IPv6Address("" if "%" in token else token)
+    except ValueError:
         return None
+    # Later versions of Python write the last two groups of such an address as an IPv4 address.
+    low = int(found) & 0xffffffff
+    return f"::ffff:{low >> 16:x}:{low & 0xffff:x}" if found.ipv4_mapped else str(found)
 
 
 def address(token):
