@@ -1,5 +1,5 @@
 -- Searching the list of checked names by keys.
-use Rattle.dns_zone.proofs.Common.{◌≡◌, ℕ, suc, ◌<◌, ◌≤◌, Bool, true, false, ◌&&◌, not, cond, ◌==◌, nat_lt, ◌⊎◌, inl, inr, List, get_or, zero, drop, length-take, [], ◌∷◌, map, length, take, refl, sym, ap, ap₂, ◌∙◌, subst, arith, filter, is_gt, nat_cmp, Ordering, Less, Equal, Greater, false≢true, true≢false, not-true, and_parts, false_from_ne_true, cases_lt, nat_list_cmp_total, tied_itself, upto, get_or-take, get_or_default, min-eq_left, slice_cmp, starts_with, IsPartitionedBy, ordering_reverse, Octets, DomainName, folded, same, at_or_below, name_order, ResourceRecord, ZoneContents, at, is_cut, at_or_below_cut, checked_names, octets_equal-decides, name_tie, name_order_total, lower_equal, Lower, AllByRecursion, Among, Rises, each_at, each_filter, filter_each, filter_among, name_key, own_in, owner_of, IsTopmost, is_covered, is_upto, IsChecked, IsLastUpto, owners_once, IsFront, CheckedName, each_among}
+use Rattle.dns_zone.proofs.Common.{◌≡◌, ℕ, suc, ◌<◌, ◌≤◌, Bool, true, false, ◌&&◌, not, cond, ◌==◌, nat_lt, ◌⊎◌, inl, inr, List, get_or, zero, drop, length-take, [], ◌∷◌, map, length, take, refl, sym, ap, ap₂, ◌∙◌, subst, arith, filter, is_gt, nat_cmp, Ordering, Less, true≢false, not-true, and_parts, false_from_ne_true, cases_lt, nat_list_cmp_total, tied_itself, upto, get_or-take, get_or_default, min-eq_left, slice_cmp, starts_with, IsPartitionedBy, ordering_reverse, Octets, DomainName, folded, same, at_or_below, name_order, ResourceRecord, ZoneContents, at, is_cut, at_or_below_cut, checked_names, octets_equal-decides, name_tie, name_order_total, lower_equal, Lower, AllByRecursion, Among, Rises, each_at, each_filter, filter_each, filter_among, name_key, own_in, owner_of, IsTopmost, is_covered, is_upto, IsChecked, IsLastUpto, owners_once, IsFront, CheckedName, each_among}
 use Rattle.dns_zone.proofs.KeyOrder.{key_order}
 use Rattle.dns_zone.proofs.NameOrder.{same-is}
 use Rattle.dns_zone.proofs.NameTree.{under-order}
@@ -103,13 +103,10 @@ module _ (z : ZoneContents) where
           (filter_each (λ c. not (is_upto key c)) names))
         where
           twice : (b : Bool) → not (not b) ≡ true → b ≡ true
-          twice true e = refl
-          twice false e = absurd (false≢true e)
+          twice b e = grind arith
 
           after : (c d : Ordering) → d ≡ ordering_reverse c → is_gt c ≡ true → d ≡ Less
-          after Less d e f = absurd (false≢true f)
-          after Equal d e f = absurd (false≢true f)
-          after Greater d e f = e
+          after c d e f = grind arith
 
       -- each name that is not after m is among the first k
       pub upto_among : (c : CheckedName) → Among c names → is_gt (name_order (name c) m) ≡ false

@@ -1,5 +1,6 @@
 -- Moving records to the places that they have in a list of places.
-use Rattle.dns_zone.proofs.Common.{◌≡◌, ℕ, ◌+◌, ◌<◌, ◌≤◌, ◌⊎◌, inl, inr, List, length, take, map, set, get_or, sym, ap, ◌∙◌, arith, length-map, length-take, length-set, get_or-map, get_or-take, get_or-set_same, get_or-set_other, get_or_default, cases_order, min-eq_left, subst, SwappedAt, ResourceRecord, AreApart, no_record, placed, SortKey}
+use Rattle.dns_zone.proofs.Common.{◌≡◌, ℕ, ◌+◌, ◌<◌, ◌≤◌, ◌⊎◌, inl, inr, List, length, take, map, set, get_or, sym, ap, ◌∙◌, arith, length-map, length-take, length-set, get_or-map, get_or-take, get_or-set_same, get_or-set_other, get_or_default, min-eq_left, subst, SwappedAt, ResourceRecord, AreApart, no_record, placed, SortKey}
+use Rattle.dns_zone.proofs.SortKeyOrder.{either}
 use Rattle.std.proofs.lemmas.List.{ext_get_or}
 
 -- stands for a place that does not exist
@@ -19,9 +20,6 @@ pub record IsGathered (old now : List ResourceRecord) (index_of record_at : List
   pub from : (k : ℕ) (r : ResourceRecord) → k < length old
       → get_or now k r ≡ get_or old (get_or record_at k 0) r
   pub done : (k : ℕ) (d : SortKey) → k < to → get_or record_at k 0 ≡ (get_or ps k d).at
-
-either : (a b : ℕ) → (a ≡ b) ⊎ (a ≡ b → ⊥)
-either a b = grind (arith, inl, inr, cases_order)
 
 module _ (old now next : List ResourceRecord) (index_of record_at : List ℕ) (ps : List SortKey)
     (to : ℕ) (h : IsGathered old now index_of record_at ps to) (apart : AreApart ps)

@@ -1,5 +1,5 @@
 -- The rows of a name's children, added one by one.
-use Rattle.dns_zone.proofs.Common.{AddsChildren, Among, Bool, DomainName, AllByRecursion, Equal, Greater, IsCanonical, IsChild, IsRow, Less, List, Octets, Ordering, ResourceRecord, Rises, Row, [], ap, append-nil, append_assoc, ap₂, arith, at_or_below, drop, drop-drop, drop_at, drop_more, each_at, each_weaker, false, false_from_ne_true, false≢true, filter, filter-append, filter_each, filter_test, first_of, folded, folded_folded, get_or, get_or-map, inl, inr, is_gt, label_order, labels_of_spelled, length, length-append, list_any, list_any-append, map, map-append, names_equal, names_equal-decides, or_cases, or_right, owners, refl, row_label, row_name, row_octets, same, same-length, span, subst, suc, sym, take, take-append-drop, take_at, to_ascii_lowercase, true, true≢false, under, ℕ, ◌++◌, ◌+◌, ◌-◌, ◌<◌, ◌∙◌, ◌∷◌, ◌≡◌, ◌≤◌, ◌⊎◌}
+use Rattle.dns_zone.proofs.Common.{AddsChildren, Among, Bool, DomainName, AllByRecursion, Equal, IsCanonical, IsChild, IsRow, Less, List, Octets, Ordering, ResourceRecord, Rises, Row, [], ap, append-nil, append_assoc, ap₂, arith, at_or_below, drop, drop-drop, drop_at, drop_more, each_at, each_weaker, false, false_from_ne_true, false≢true, filter, filter-append, filter_each, filter_test, first_of, folded, folded_folded, get_or, get_or-map, inl, inr, is_gt, label_order, labels_of_spelled, length, length-append, list_any, list_any-append, map, map-append, names_equal, names_equal-decides, or_cases, or_right, owners, refl, row_label, row_name, row_octets, same, same-length, span, subst, suc, sym, take, take-append-drop, take_at, to_ascii_lowercase, true, under, ℕ, ◌++◌, ◌+◌, ◌-◌, ◌<◌, ◌∙◌, ◌∷◌, ◌≡◌, ◌≤◌, ◌⊎◌}
 use Rattle.dns_zone.proofs.NameTree.{label-tie}
 use Rattle.dns_zone.proofs.AtName.{OwnerNotAfter, owners_in_order, is_at}
 use Rattle.dns_zone.proofs.Existing.{under-lower}
@@ -210,9 +210,7 @@ module _ (rs : List ResourceRecord) (canonical : IsCanonical rs) (n : DomainName
       where
         less : (x y : Octets) (c : Ordering) → label_order x y ≡ c → is_gt c ≡ false
             → (label_order x y ≡ Equal → ⊥) → c ≡ Less
-        less x y Less q g f = refl
-        less x y Equal q g f = absurd (f q)
-        less x y Greater q g f = absurd (true≢false g)
+        less x y c q g f = grind arith
 
     take_now : take child.end rs ≡ take k rs ++ under m rs
     take_now = take_span k child.end rs order ∙ ap (λ xs. take k rs ++ xs) group
@@ -315,13 +313,8 @@ module _ (rs : List ResourceRecord) (canonical : IsCanonical rs) (n : DomainName
       found : (l : Octets) → list_any (is_under (l ∷ n)) rs ≡ true
           → list_any (is_under (l ∷ n)) (take k rs) ≡ true
       found l e =
-          go (or_cases (list_any (is_under (l ∷ n)) (take k rs))
-          (list_any (is_under (l ∷ n)) (drop k rs))
-          (sym (list_any-append (is_under (l ∷ n)) (take k rs) (drop k rs))
-          ∙ ap (list_any (is_under (l ∷ n))) (take-append-drop k rs) ∙ e))
-        where
-          go : (list_any (is_under (l ∷ n)) (take k rs) ≡ true) ⊎ (list_any (is_under (l ∷ n))
-              (drop k rs) ≡ true) → list_any (is_under (l ∷ n)) (take k rs) ≡ true
-          go (inl f) = f
-          go (inr f) =
-              absurd (false≢true (sym (any_nothing (is_under (l ∷ n)) (drop k rs) (none l)) ∙ f))
+          let p = is_under (l ∷ n) in
+          let other = any_nothing p (drop k rs) (none l) in
+          let both = list_any-append p (take k rs) (drop k rs) in
+          let whole = ap (list_any p) (take-append-drop k rs) in
+          grind (arith, (other), (both), (whole))

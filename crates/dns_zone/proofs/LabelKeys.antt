@@ -32,14 +32,10 @@ lesser zero a b v w h = absurd (omega arith)
 lesser (suc n) a [] v w h = absurd (omega arith)
 lesser (suc n) [] (y ∷ b) v w h = refl
 lesser (suc n) (x ∷ a) (y ∷ b) v w h =
-    go (lesser_parts (256 ^ n) x y (key_of n a) (key_of n b) (key_low n a (rest_low x a v))
-    (key_low n b (rest_low y b w)) h)
-    (lesser n a b (rest_low x a v) (rest_low y b w))
-  where
-    go : (x < y) ⊎ ((x ≡ y) × (key_of n a < key_of n b))
-        → (key_of n a < key_of n b → label_order a b ≡ Less) → label_order (x ∷ a) (y ∷ b) ≡ Less
-    go (inl l) rest = grind arith
-    go (inr (e, l)) rest = same_head x y a b e ∙ rest l
+    let first = lesser_parts (256 ^ n) x y (key_of n a) (key_of n b)
+    (key_low n a (rest_low x a v)) (key_low n b (rest_low y b w)) h in
+    let rest = lesser n a b (rest_low x a v) (rest_low y b w) in
+    grind (arith, (first), (rest), same_head)
 
 alike : (n x y : ℕ) (a b : Octets) → Low (x ∷ a) → Low (y ∷ b)
     → key_of (suc n) (x ∷ a) ≡ key_of (suc n) (y ∷ b) → (x ≡ y) × (key_of n a ≡ key_of n b)
@@ -57,8 +53,7 @@ lengths : (n : ℕ) (a b : Octets) → Low a → Low b → key_of n a ≡ key_of
 lengths n [] [] v w h s = refl
 lengths n [] (y ∷ b) v w h s = sym (nat_cmp_is 0 (length (y ∷ b)) Less (omega arith))
 lengths n (x ∷ a) [] v w h s = sym (nat_cmp_is (length (x ∷ a)) 0 Greater (omega arith))
-lengths zero (x ∷ a) (y ∷ b) v w h (inl s) = absurd (omega arith)
-lengths zero (x ∷ a) (y ∷ b) v w h (inr s) = absurd (omega arith)
+lengths zero (x ∷ a) (y ∷ b) v w h s = grind arith
 lengths (suc n) (x ∷ a) (y ∷ b) v w h s =
     let e = alike n x y a b v w h in
     one_more (length a) (length b)
@@ -66,8 +61,7 @@ lengths (suc n) (x ∷ a) (y ∷ b) v w h s =
     ∙ sym (same_head x y a b e.0)
   where
     fewer : (length (x ∷ a) ≤ suc n) ⊎ (length (y ∷ b) ≤ suc n) → (length a ≤ n) ⊎ (length b ≤ n)
-    fewer (inl t) = inl (omega arith)
-    fewer (inr t) = inr (omega arith)
+    fewer t = grind (arith, inl, inr)
 
 rests : (n : ℕ) (a b : Octets) → Low a → Low b → key_of n a ≡ key_of n b → n ≤ length a
     → n ≤ length b → label_order (drop n a) (drop n b) ≡ label_order a b
@@ -99,9 +93,7 @@ key_more zero m a =
     let none : 0 + m ≡ m = omega arith in
     let first : key_of m a ≡ 0 * 256 ^ m + key_of m a = omega arith in
     ap (λ k. key_of k a) none ∙ first
-key_more (suc n) m [] =
-    let first : key_of m [] ≡ 0 * 256 ^ m + key_of m [] = omega arith in
-    key_none (suc n + m) ∙ sym (key_none m) ∙ first
+key_more (suc n) m [] = grind (arith, key_none)
 key_more (suc n) m (x ∷ a) =
     let one_more : suc n + m ≡ suc (n + m) = omega arith in
     let worth = 256 ^ m in

@@ -1,6 +1,7 @@
 -- Places are in the order of their records.
-use Rattle.dns_zone.proofs.Common.{◌≡◌, ℕ, zero, suc, ◌-◌, ◌≤◌, ◌⊎◌, inl, inr, [], ◌∷◌, length, subst, wire, IsEight, take, drop, min-eq_left, refl, sym, ap, ap₂, ◌∙◌, arith, Ordering, Less, Equal, Greater, cases_order, nat_cmp, nat_cmp_is, nat_cmp_total, nat_list_cmp_total, IsTotalOrder, then_total, on_total, ordering_then, ordering_reverse, slice_cmp, tied_itself, alike_right, List, Octets, ResourceRecord, LowerOwner, record_order, name_key, placed, place_key, place_order, own_order, AreFronts, IsPlace, SortKey}
+use Rattle.dns_zone.proofs.Common.{◌≡◌, ℕ, zero, suc, ◌-◌, ◌≤◌, ◌⊎◌, inl, inr, [], ◌∷◌, length, subst, wire, IsEight, take, drop, min-eq_left, take_all, drop_all, cases_lt, refl, sym, ap, ap₂, ◌∙◌, arith, Ordering, Less, Equal, Greater, cases_order, nat_cmp, nat_cmp_is, nat_cmp_total, nat_list_cmp_total, IsTotalOrder, then_total, on_total, ordering_then, ordering_reverse, slice_cmp, tied_itself, alike_right, List, Octets, ResourceRecord, LowerOwner, record_order, name_key, placed, place_key, place_order, own_order, AreFronts, IsPlace, SortKey}
 use Rattle.std.specs.Prelude.{min}
+use Rattle.std.proofs.Math.Nat.{min-eq_right}
 use Rattle.dns_zone.proofs.KeyOrder.{key_order}
 use Rattle.dns_zone.proofs.LabelKeys.{front_order, next_order}
 use Rattle.dns_spec.proofs.General.Orderings.{then_assoc}
@@ -38,20 +39,11 @@ prefix_tied (suc n) (x ∷ a) [] h = grind arith
 prefix_tied (suc n) (x ∷ a) (y ∷ b) h =
     grind (arith, slice_cmp, ordering_then, (prefix_tied n a b))
 
-min_more : (n m : ℕ) → min (suc n) (suc m) ≡ suc (min n m)
-min_more n m = omega arith
-
 pub take_min : (n : ℕ) (xs : Octets) → take (min n (length xs)) xs ≡ take n xs
-take_min zero xs = ap (λ k. take k xs) (min-eq_left (omega arith))
-take_min (suc n) [] = grind arith
-take_min (suc n) (x ∷ xs) =
-    ap (λ k. take k (x ∷ xs)) (min_more n (length xs)) ∙ ap (λ ys. x ∷ ys) (take_min n xs)
+take_min n xs = grind (arith, cases_lt, min-eq_left, min-eq_right, take_all)
 
 pub drop_min : (n : ℕ) (xs : Octets) → drop (min n (length xs)) xs ≡ drop n xs
-drop_min zero xs = ap (λ k. drop k xs) (min-eq_left (omega arith))
-drop_min (suc n) [] = grind arith
-drop_min (suc n) (x ∷ xs) =
-    ap (λ k. drop k (x ∷ xs)) (min_more n (length xs)) ∙ drop_min n xs
+drop_min n xs = grind (arith, cases_lt, min-eq_left, min-eq_right, drop_all)
 
 -- numbers that do not fall, and then a key that is less
 rising : (f g i j : ℕ) → f ≤ g → i ≤ j
@@ -74,7 +66,7 @@ alike : (f g i j : ℕ) (c : Ordering) → f ≡ g → i ≡ j
 alike f g i j c l m =
     same_first f g (ordering_then (nat_cmp i j) c) l ∙ same_first i j c m
 
-either : (a b : ℕ) → (a ≡ b) ⊎ (a ≡ b → ⊥)
+pub either : (a b : ℕ) → (a ≡ b) ⊎ (a ≡ b → ⊥)
 either a b = grind (arith, inl, inr, cases_order)
 
 -- places that share a key

@@ -1,8 +1,8 @@
 -- Sorted places without those of duplicates are those of the records in canonical order.
-use Rattle.dns_zone.proofs.Common.{◌≡◌, ℕ, zero, suc, ◌<◌, ◌≤◌, ◌⊎◌, inl, inr, List, [], ◌∷◌, All, AllByRecursion, Ordering, name_key, length-map, get_or-map, ap₂, recursion_from_All, All-weaker, length, map, get_or, refl, sym, ap, ◌∙◌, arith, true, is_eq, Less, Equal, subst, get_or_default, cases_order, tied_itself, IsPermutation, IsSorted, Octets, ResourceRecord, IsReadRecord, LowerOwner, record_order, record_order_total, record_ties, one_record, records_equal, distinct, sort_by, rises_canonical, Among, Rises, among_contains, among_distinct, among_sort, distinct_among, sort_among, same_risen, AreApart, ArePlaces, AreSorted, IsPlace, no_record, place_key, place_order, placed, SortKey}
+use Rattle.dns_zone.proofs.Common.{◌≡◌, ℕ, zero, suc, ◌<◌, ◌≤◌, inl, inr, List, [], ◌∷◌, All, AllByRecursion, Ordering, name_key, length-map, get_or-map, ap₂, recursion_from_All, All-weaker, length, map, get_or, refl, sym, ap, ◌∙◌, arith, true, is_eq, Less, Equal, subst, get_or_default, cases_order, tied_itself, IsPermutation, IsSorted, Octets, ResourceRecord, IsReadRecord, LowerOwner, record_order, record_order_total, record_ties, one_record, records_equal, distinct, sort_by, rises_canonical, Among, Rises, among_contains, among_distinct, among_sort, distinct_among, sort_among, same_risen, AreApart, ArePlaces, AreSorted, IsPlace, no_record, place_key, place_order, placed, SortKey}
 use Rattle.dns_zone.proofs.Gathered.{no_place}
 use Rattle.dns_zone.proofs.SortKeyOrder.{place_order_total, placed_order}
-use Rattle.dns_spec.proofs.General.Elements.{each_map, each_both, each_at}
+use Rattle.dns_spec.proofs.General.Elements.{each_map, each_both, each_at, among_get, among_mapped}
 use Rattle.std.proofs.lemmas.List.Filters.{All-dedup}
 use Rattle.std.proofs.lemmas.List.Kept.{Any-dedup, IsStrictlySortedBy-dedup}
 use Rattle.std.proofs.lemmas.List.Sorted.{All-permutation, Contains-permutation, length_permutation}
@@ -11,23 +11,13 @@ use Rattle.std.specs.Ordering.{eq_by_cmp}
 use Rattle.std.specs.List.{dedup, Contains}
 use Rattle.std.specs.List.Sorted.{IsStrictlySortedBy}
 
-among_at : {X : Type 0} (xs : List X) (i : ℕ) (d : X) → i < length xs → Among (get_or xs i d) xs
-among_at [] i d l = absurd (omega (arith, l))
-among_at (x ∷ xs) zero d l = inl refl
-among_at (x ∷ xs) (suc i) d l = inr (among_at xs i d (omega (arith, l)))
-
-among_map : {X Y : Type 0} (f : X → Y) (xs : List X) (x : X) → Among x xs → Among (f x) (map f xs)
-among_map f [] x m = absurd m
-among_map f (y ∷ xs) x (inl e) = inl (ap f e)
-among_map f (y ∷ xs) x (inr m) = inr (among_map f xs x m)
-
 -- each element of a rising list is less than those after it
 rises_far : (xs : List ResourceRecord) → Rises record_order xs → (i j : ℕ) (d : ResourceRecord)
     → i < j → j < length xs → record_order (get_or xs i d) (get_or xs j d) ≡ Less
 rises_far [] r i j d l m = absurd (omega (arith, m))
 rises_far (x ∷ xs) r i zero d l m = absurd (omega (arith, l))
 rises_far (x ∷ xs) r zero (suc j) d l m =
-    each_at (λ y. record_order x y ≡ Less) (get_or xs j d) xs r.0 (among_at xs j d (omega (arith, m)))
+    each_at (λ y. record_order x y ≡ Less) (get_or xs j d) xs r.0 (among_get xs j d (omega (arith, m)))
 rises_far (x ∷ xs) r (suc i) (suc j) d l m =
     rises_far xs r.1 i j d (omega (arith, l)) (omega (arith, m))
 
@@ -64,7 +54,7 @@ module _ (origin keys : Octets) (rs : List ResourceRecord) (first : ResourceReco
       → (a : ResourceRecord) → Among a (map f ps) → Among a rs
   inside_among [] e a m = absurd m
   inside_among (p ∷ ps) e a (inl g) =
-      subst (λ r. Among r rs) (sym g) (among_at rs p.at first e.0.inside)
+      subst (λ r. Among r rs) (sym g) (among_get rs p.at first e.0.inside)
   inside_among (p ∷ ps) e a (inr m) = inside_among ps e.1 a m
 
   module _ (ps qs : List SortKey) (all : ArePlaces origin keys rs ps) (moved : IsPermutation ps qs)
@@ -102,7 +92,7 @@ module _ (origin keys : Octets) (rs : List ResourceRecord) (first : ResourceReco
         (record_ties (f p) (f q) ∙ ap is_eq (sym (order p q place other)) ∙ tie) in
         let owner : f p ≡ a = ap (λ j. get_or rs j first) at ∙ get_or_default rs k first a l ∙ e in
         subst (λ r. Among r (map f ds)) (sym same ∙ owner)
-        (among_map f ds q (subst (λ x. Among x ds) is (among_at ds i q within)))
+        (among_mapped f q ds (subst (λ x. Among x ds) is (among_get ds i q within)))
 
     pub whole : map f ds ≡ sort_by record_order (distinct records_equal rs)
     whole =
@@ -125,7 +115,7 @@ module _ (origin keys : Octets) (rs : List ResourceRecord) (first : ResourceReco
         (same_first es e.1)
 
     apart : AreApart ds
-    apart i j d l m e = go (cases_order i j)
+    apart i j d l m e = grind (arith, cases_order, differ)
       where
         differ : (a b : ℕ) → a < b → b < length ds → (get_or ds a d).at ≡ (get_or ds b d).at → ⊥
         differ a b n within same =
@@ -137,11 +127,6 @@ module _ (origin keys : Octets) (rs : List ResourceRecord) (first : ResourceReco
             ap (λ k. get_or rs k first) same in
             less_itself (f (get_or ds b d))
             (sym (ap₂ record_order (left ∙ one) right) ∙ less)
-
-        go : (i ≡ j) ⊎ ((i < j) ⊎ (j < i)) → i ≡ j
-        go (inl g) = g
-        go (inr (inl n)) = absurd (differ i j n m e)
-        go (inr (inr n)) = absurd (differ j i n l (sym e))
 
     pub are_sorted : length ds ≤ length qs → AreSorted keys rs ds
     are_sorted short =

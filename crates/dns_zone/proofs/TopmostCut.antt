@@ -22,11 +22,9 @@ module _ (z : ZoneContents) where
       (c : DomainName) × (folded c ≡ c) × (is_cut z c ≡ true) × (at_or_below n c ≡ true)
 
   cut_found : (n : DomainName) → folded n ≡ n → at_or_below_cut z n ≡ true → HasCut n
-  cut_found [] low h = go (or_cases (is_cut z []) false h)
-    where
-      go : (is_cut z [] ≡ true) ⊎ (false ≡ true) → HasCut []
-      go (inl e) = ([], low, e, itself [])
-      go (inr e) = absurd (false≢true e)
+  cut_found [] low h =
+      let here : is_cut z [] ≡ true = grind (arith, or_cases, false≢true) in
+      ([], low, here, itself [])
   cut_found (l ∷ n) low h =
       go (or_cases (is_cut z (l ∷ n)) (at_or_below_cut z n) h) (cut_found n (ap (drop 1) low))
     where
@@ -41,15 +39,10 @@ module _ (z : ZoneContents) where
       → at_or_below n c ≡ true → at_or_below_cut z n ≡ true
   above_cut [] c low d is u = grind (arith, or_left, under-is)
   above_cut (l ∷ n) c low d is u =
-      go (or_cases (same (l ∷ n) c) (at_or_below n c) (sym (at_or_below-cons l n c) ∙ u))
-      (above_cut n c (ap (drop 1) low) d is)
-    where
-      go : (same (l ∷ n) c ≡ true) ⊎ (at_or_below n c ≡ true)
-          → (at_or_below n c ≡ true → at_or_below_cut z n ≡ true) → at_or_below_cut z (l ∷ n) ≡ true
-      go (inl e) f =
-          or_left (is_cut z (l ∷ n)) (at_or_below_cut z n)
-          (ap (is_cut z) (one_name (l ∷ n) c low d e) ∙ is)
-      go (inr e) f = or_right (is_cut z (l ∷ n)) (at_or_below_cut z n) (f e)
+      let either = or_cases (same (l ∷ n) c) (at_or_below n c) (sym (at_or_below-cons l n c) ∙ u) in
+      let above = above_cut n c (ap (drop 1) low) d is in
+      let here = one_name (l ∷ n) c low d in
+      grind (arith, or_left, or_right, (either), (above), (here))
 
   -- k is at most the length of n's key, and is 0 if and only if n is at or below no cut
   module _ (n : DomainName) (low : folded n ≡ n) (k : ℕ) (t : IsTopmost z n k) where
@@ -119,13 +112,8 @@ module _ (z : ZoneContents) where
               above = itself n;
               octets = refl;
             };
-            least = grind (arith, cases_lt, octets);
+            least = grind (arith, cases_lt, some);
           }
-        where
-          octets : (0 < length (name_key n)) ⊎ (length (name_key n) ≤ 0) → 0 < length n
-              → 0 < length (name_key n)
-          octets (inl l) h = l
-          octets (inr l) h = absurd (some n h (omega arith))
       go false e = record {
         some = λ h. absurd (omega (arith, h));
         least = grind arith;
