@@ -7,7 +7,7 @@ pub use Rattle.std.proofs.lemmas.Bool.Decides.{nat_tests}
 pub use Rattle.std.proofs.lemmas.Map.Views.{any-filter_same}
 pub use Rattle.dns_answer.specs.Chain.{aliases_of, names_from, rest_of}
 unfoldable pub use Rattle.dns_answer.specs.Chain.{chain_rest}
-pub use Rattle.dns_answer.specs.OfferedReply.{ReplyBuilder, empty_draft, offer, size_with}
+pub use Rattle.dns_answer.specs.OfferedReply.{OfferedReply, empty_reply, offer, size_with}
 unfoldable pub use Rattle.dns_answer.specs.OfferedReply.{offered}
 pub use Rattle.dns_answer.specs.ReplyBuilderForm.{Holds, Offers, State}
 pub use Rattle.dns_answer.specs.Ending.{Ends, IsPlain, Rest, Says, TookRest, all_names, asked_item, ending, ending_required, ending_targets, glue_by, inside, misses_by, nodes_by, not_inside, others_by}

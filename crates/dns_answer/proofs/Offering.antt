@@ -18,7 +18,7 @@ Offers-is w w' is js e a = subst (Offers w w') e a
 pub Offers-empty : {w : State} (is : List Item) → is ≡ [] → Offers w w is
 Offers-empty {w} is e = subst (Offers w w) (sym e) (Offers-nothing w)
 
-open_offer : (d : spec.ReplyBuilder) (i : Item)
+open_offer : (d : spec.OfferedReply) (i : Item)
     → d.full ≡ false → offer d i ≡ cond (nat_le (size_with d.question (d.kept ++ i ∷ [])) d.limit)
     (record d { kept = d.kept ++ i ∷ [] }) (record d { full = true })
 open_offer d i e = rw e refl
@@ -45,7 +45,7 @@ Offers-left w i unfull left = record {
   limit = refl;
 }
   where
-    go : (d : spec.ReplyBuilder) → Holds w d → (y : Bool) → nat_le
+    go : (d : spec.OfferedReply) → Holds w d → (y : Bool) → nat_le
         (size_with d.question (d.kept ++ i ∷ [])) d.limit ≡ y → Holds (record w { full = true })
         (cond y (record d { kept = d.kept ++ i ∷ [] }) (record d { full = true }))
     go d h true f = grind arith

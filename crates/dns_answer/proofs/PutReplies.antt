@@ -1,5 +1,5 @@
 -- The octets at the front of the buffer are the reply that the definitions state.
-use Rattle.dns_answer.proofs.Common.{◌≡◌, ℕ, ◌+◌, Bool, true, false, cond, not, ◌&&◌, nat_lt, nat_le, List, [], ◌∷◌, ◌++◌, length, Option, Some, is_some, refl, ap, ◌∙◌, subst, arith, DomainName, is_name, ZoneContents, Header, MessageQuestion, Item, layout, size, most_aliases, outcome, items, is_authoritative, option_map, IsPartial, quick_number, reply_head, Decision, kept, truncated, answered, keep_longest, reply_of, reply_octets, few_nodes, Walk, code_of, empty_draft, offer, offered, size_with, State, Holds, IsHeaded, Rest, TookRest, chain_rest, Seeks, Followed, Answers, Costs, Verdict}
+use Rattle.dns_answer.proofs.Common.{◌≡◌, ℕ, ◌+◌, Bool, true, false, cond, not, ◌&&◌, nat_lt, nat_le, List, [], ◌∷◌, ◌++◌, length, Option, Some, is_some, refl, ap, ◌∙◌, subst, arith, DomainName, is_name, ZoneContents, Header, MessageQuestion, Item, layout, size, most_aliases, outcome, items, is_authoritative, option_map, IsPartial, quick_number, reply_head, Decision, kept, truncated, answered, keep_longest, reply_of, reply_octets, few_nodes, Walk, code_of, empty_reply, offer, offered, size_with, State, Holds, IsHeaded, Rest, TookRest, chain_rest, Seeks, Followed, Answers, Costs, Verdict}
 use Rattle.dns_answer.specs.OfferedReply as spec
 use Rattle.dns_answer.proofs.Offering.{Offers-is}
 use Rattle.dns_answer.proofs.Offered.{offered-keeps, offered-truncated}
@@ -17,7 +17,7 @@ refusal-put z limit x h q w is begun room = λ sent laid. record {
 }
 
 -- offering sets does not change the question
-offered-question : (d : spec.ReplyBuilder) (is : List Item) → (offered d is).question ≡ d.question
+offered-question : (d : spec.OfferedReply) (is : List Item) → (offered d is).question ≡ d.question
 unfolding offered
 offered-question d [] = refl
 offered-question d (i ∷ is) = offered-question (offer d i) is
@@ -34,7 +34,7 @@ module _ (z : ZoneContents) (h : Header) (q : MessageQuestion) where
   r = chain_rest z q.qtype most_aliases [] q.qname
 
   truncates : (limit : ℕ) → truncated z q (keep_longest z limit q)
-      ≡ (offered (empty_draft q limit) (chain_rest z q.qtype most_aliases [] q.qname).required).full
+      ≡ (offered (empty_reply q limit) (chain_rest z q.qtype most_aliases [] q.qname).required).full
   truncates limit =
       ap (λ rs. nat_lt (length (keep_longest z limit q)) (length rs))
       (required-are z q.qname q.qtype)
@@ -56,18 +56,18 @@ module _ (z : ZoneContents) (h : Header) (q : MessageQuestion) where
       grind (arith, authoritative, rcode-is, Offers-is, items-are, truncates)
 
   -- The written reply is the reply of an answer.
-  pub answer-put : (limit : ℕ) (w w' : State) (head : Header) → Holds w (empty_draft q limit)
+  pub answer-put : (limit : ℕ) (w w' : State) (head : Header) → Holds w (empty_reply q limit)
       → Answers z h q w w' head → IsHeaded z limit (answered h q) w' head
   answer-put limit w w' head begun stated = λ sent laid.
       let all = items z q.qname q.qtype in
-      let d = offered (empty_draft q limit) all in
-      let held : Holds w' d = stated.offers.builder (empty_draft q limit) begun in
+      let d = offered (empty_reply q limit) all in
+      let held : Holds w' d = stated.offers.builder (empty_reply q limit) begun in
       record {
         octets =
             ap (λ x. Some x)
             (laid.octets (Some d.question) d.kept held.written
             ∙ ap (λ (x : MessageQuestion). layout head (Some x) d.kept)
-            (offered-question (empty_draft q limit) all)
+            (offered-question (empty_reply q limit) all)
             ∙ ap (λ js. layout head (Some q) js) (offered-keeps q limit all)
             ∙ ap (λ x. layout x (Some q) (keep_longest z limit q)) (stated.header limit begun));
         within = omega (arith, laid.within, stated.offers.limit, begun.limit);

@@ -79,7 +79,7 @@ pub record Says (w w' : State) (r : Rest) (v : Verdict) : Type 0 where
   pub offers : Offers w w' r.items
   pub rcode : code_of v.rcode ≡ r.outcome.rcode
   pub referral : v.is_referral ≡ is_some r.outcome.referral
-  pub truncated : (d : spec.ReplyBuilder) → Holds w d → v.is_truncated ≡ (offered d r.required).full
+  pub truncated : (d : spec.OfferedReply) → Holds w d → v.is_truncated ≡ (offered d r.required).full
 
 -- The verdict is not a referral, and states whether a set that was offered is missing.
 pub record IsPlain (w : State) (code : ℕ) (v : Verdict) : Type 0 where

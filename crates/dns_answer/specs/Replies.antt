@@ -12,7 +12,7 @@ use Rattle.dns_zone.specs.Nodes.{Walk}
 use Rattle.dns_wire.specs.PartialMessage.{IsPartial}
 use Rattle.dns_wire.specs.QueryForm.{code_of}
 use Rattle.dns_wire.specs.QuickNumbers.{quick_number}
-use Rattle.dns_answer.specs.OfferedReply.{empty_draft}
+use Rattle.dns_answer.specs.OfferedReply.{empty_reply}
 use Rattle.dns_answer.specs.ReplyBuilderForm.{State, Holds, Offers}
 use Rattle.dns_zone.specs.Starts.{IsBelow}
 use Rattle.dns_wire.specs.declared.query.Rcode.{Rcode}
@@ -43,7 +43,7 @@ IsHeaded z limit x w head = (sent : Octets) → IsLaidOut w head sent → IsRepl
 pub record Answers (z : ZoneContents) (h : Header) (q : MessageQuestion) (w w' : State)
     (head : Header) : Type 0 where
   pub offers : Offers w w' (items z q.qname q.qtype)
-  pub header : (limit : ℕ) → Holds w (empty_draft q limit)
+  pub header : (limit : ℕ) → Holds w (empty_reply q limit)
       → head ≡ (answer_with z h q (keep_longest z limit q)).header
 
 -- the most nodes that a decision visits, and the most names that it looks up; none, unless a

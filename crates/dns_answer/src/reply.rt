@@ -5,7 +5,7 @@ ghost use Rattle.dns_spec.specs.Records.{ZoneContents};
 ghost use Rattle.dns_spec.specs.Reading.{Spells};
 ghost use Rattle.dns_spec.specs.Query.{is_ignored};
 ghost use Rattle.dns_spec.specs.Reply.{answered, decide, reply, reply_message, octets_of};
-ghost use Rattle.dns_answer.specs.OfferedReply.{empty_draft};
+ghost use Rattle.dns_answer.specs.OfferedReply.{empty_reply};
 ghost use Rattle.dns_answer.specs.ReplyBuilderForm.{Holds};
 ghost use Rattle.dns_answer.specs.Limits.{limit_of};
 ghost use Rattle.dns_zone.specs.Starts.{IsBelow};
@@ -38,10 +38,10 @@ impl Limit {
     }
 }
 
-/// Room for replies over UDP.
+/// A builder of replies over UDP.
 pub type UdpBuilder = ReplyBuilder<256, 512>;
 
-/// Room for replies over TCP; a value takes about 131,000 octets.
+/// A builder of replies over TCP; a value takes about 131,000 octets.
 pub type TcpBuilder = ReplyBuilder<8192, 65_535>;
 
 /// Writes the reply to a datagram to the front of `out` and returns its length in octets.
@@ -54,7 +54,7 @@ pub type TcpBuilder = ReplyBuilder<8192, 65_535>;
 /// Preconditions: `steps` is a new walk, with counts of 0, and `out` is as long as the limit.
 /// Does not allocate. No name is looked up unless a question is answered.
 ///
-/// Each call first sets all octets of a builder to zero, which over TCP takes far longer than making
+/// Each call first sets all octets of a new builder to 0, which over TCP takes far longer than making
 /// a short reply. To answer many messages, keep a builder and call `respond_in`.
 #[tactic(auto, using(crate::proofs::SentReplies::put_room, crate::proofs::SentReplies::put_absent, crate::proofs::SentReplies::put_octets, crate::proofs::SentReplies::put_spells, crate::proofs::SentReplies::put_fits))]
 pub fn respond(
@@ -102,7 +102,7 @@ fn put_reply(reply: Option<&[u8]>, out: &mut [u8]) -> Option<usize>
     Some(reply.len())
 }
 
-/// Makes the reply to a datagram in a builder, and lends it from there: the reply that `respond`
+/// Makes the reply to a datagram, and returns it, borrowed from the builder: the reply that `respond`
 /// writes, with the builder's `SIZE` as the limit. `None` if the datagram gets no reply.
 ///
 /// Nothing of an earlier reply in the builder remains, and the time does not depend on `SIZE`.
@@ -158,7 +158,7 @@ fn put_answer<'q, 'z: 'q, const N: usize, const SIZE: usize>(
     sought: Sought<'q>,
     builder: &mut ReplyBuilder<N, SIZE>,
 ) -> Head
-    requires begun { Holds builder.old (empty_draft question.now SIZE) }
+    requires begun { Holds builder.old (empty_reply question.now SIZE) }
     requires visits { steps.old.visits ≡ 0 }
     requires comparisons { steps.old.comparisons ≡ 0 }
     requires asked { sought.name ≡ question.now.qname }

@@ -8,8 +8,8 @@ use dns_rdata::SetView;
 use dns_wire::{MessageBuilder, QuickHash, Section};
 use std::marker::Model;
 
-/// A reply being made. It stores everything inline, without allocating: up to `N` places of name
-/// suffixes, and `SIZE` octets. `respond_in` borrows it for one reply after another.
+/// Makes replies, one after another, in the same memory: up to `N` offsets of name suffixes, and
+/// `SIZE` octets, all inline, without allocating.
 #[derive(Drop)]
 pub struct ReplyBuilder<const N: usize, const SIZE: usize> {
     pub(crate) message: MessageBuilder<N, SIZE>,
@@ -28,7 +28,7 @@ impl<const N: usize, const SIZE: usize> Model for ReplyBuilder<N, SIZE> {
 }
 
 impl<const N: usize, const SIZE: usize> ReplyBuilder<N, SIZE> {
-    /// Room for replies of at most `SIZE` octets, 512 to 65,535.
+    /// A builder for replies of at most `SIZE` octets, 512 to 65,535.
     ///
     /// Precondition: `N` is at most 8,192, and at least half of the lesser of `SIZE` and 16,384,
     /// the number of octets that a pointer can reach.

@@ -82,7 +82,7 @@ pub enum Capacity {
 /// `most` messages are answered on each connection.
 ///
 /// Once `turns` connections were accepted, or the server is asked to end, connections that wait for
-/// nothing are closed after 0.3 seconds, and, unless it has only one place, all others after 3
+/// nothing are closed after 0.3 seconds, and, unless its capacity is one, all others after 3
 /// seconds.
 ///
 /// However the sockets report what they found, and however input is cut: each connection that was

@@ -77,6 +77,7 @@ pub fn read_into<R: Read, G: Gathers>(
             return begun.finish(false, found);
         }
     }
+    // One octet past the limit tells whether the file goes on.
     let mut past = Vec::new(alloc);
     match append_piece(source, 1, &mut piece, &mut past) {
         Ok(goes_on) => begun.finish(goes_on, found),

@@ -15,10 +15,10 @@ use crate::token::first_token;
 use dns_rdata::Word;
 use std::alloc::AllocError;
 
-/// A place in a text: the number of octets before it, and the number of octets up to its end.
+/// A span of a text: the number of octets before it, and the number of octets up to its end.
 #[derive(Clone, Copy, Debug, PartialEq, Eq)]
 pub struct Span {
-    /// The number of octets before the place.
+    /// The number of octets before it.
     pub begins: usize,
     /// The number of octets up to its end.
     pub ends: usize,

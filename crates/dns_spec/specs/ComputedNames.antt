@@ -31,7 +31,7 @@ abbrev pub SpelledName : Type 0
 SpelledName = DomainName × ℕ
 
 -- What a pointer at place i to place p spells, in a run that began at place s: what the run that
--- begins at p spells. Span p has to be after the header and before s. `earlier` gives what the
+-- begins at p spells. Place p has to be after the header and before s. `earlier` gives what the
 -- runs that begin before s spell.
 abbrev pub jump : (ℕ → Option SpelledName) → ℕ → ℕ → ℕ → Option SpelledName
 jump earlier s i p =

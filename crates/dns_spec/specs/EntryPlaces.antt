@@ -83,7 +83,7 @@ octet_place before text =
       ends = if length text == 0 || begins_line_end text then before else 1 + before;
     }
 
--- an empty place
+-- an empty span
 abbrev pub empty_place : ℕ → Span
 empty_place before = record { begins = before; ends = before }
 

@@ -198,7 +198,7 @@ fn write_entry_fault<W: Write>(
     write_parts(line.as_slice(), sink)
 }
 
-// A place in a text: the octets before it, and its line and column, from 1.
+// A position in a text: the octets before it, and its line and column, from 1.
 #[derive(Clone, Copy)]
 struct Position {
     octets: usize,

@@ -57,7 +57,7 @@ pub fn run_once<R: Read, W: Write>(
 }
 
 /// The buffers of a run: for the octets that are read at once, for the unfinished line, for the
-/// reply and its digits, and for the builders of replies.
+/// reply and its digits, and the builders of replies.
 #[derive(Drop)]
 pub struct LineBuffers {
     piece: Vec<u8>,
@@ -212,7 +212,7 @@ impl<'z> Exchange<'z> {
     }
 }
 
-// Buffers for the builders of replies. The builder for TCP is large, so it is not on the stack.
+// The builders of replies over UDP and TCP. The one for TCP is large, so it is not on the stack.
 #[derive(Drop)]
 struct ReplyBuilders {
     udp: UdpBuilder,

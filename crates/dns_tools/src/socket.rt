@@ -63,8 +63,8 @@ fn time(clock: &impl Clock) -> Duration {
     clock.monotonic().unwrap_or_default()
 }
 
-// Whether a receive that began at this time is repeated. Its time may be over; if it would block and
-// has not waited, it is repeated after a pause.
+// Whether to repeat a receive that failed and began at this time: at once if it waited its whole
+// time, and after a pause if it would block sooner.
 fn is_received_again(error: &Error, begun: Duration, clock: &impl Clock) -> bool {
     let waited = time(clock).saturating_sub(begun) >= Duration::from_millis(LOOK / 2);
     error.kind() == ErrorKind::WouldBlock && waited || is_made_again(error, clock)

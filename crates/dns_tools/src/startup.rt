@@ -156,6 +156,7 @@ pub fn say(rt: &impl Eprint, word: FaultText) -> u8
     FAULT_STATUS
 }
 
+/// The diagnostic for a failed call: `no memory` if memory was missing, else `word`.
 pub(crate) fn word_or_no_memory(error: &Error, word: FaultText) -> FaultText
     ensures { (result ≡ word) ⊎ (result ≡ FaultText.NoMemory) }
 {

@@ -225,7 +225,7 @@ owner_put {known} {head} {d} {t = false} n form front ok asked cut fits put not 
           };
     })
 
--- what holds for the octets of a partial holds for equal octets in which suffixes are compared
+-- what holds for the octets so far holds for equal octets in which suffixes are compared
 pub names_there : {number : Octets → ℕ} {ms : List Placed} {limit a : ℕ} {b message : Octets}
     {ks : List Kept} {n : Counts} {d : PartialMessage} → partial_of limit b a ks n ≡ d → message ≡ b
     → Holds number ms d.octets (known_places number d)

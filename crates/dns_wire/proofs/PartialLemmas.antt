@@ -1,4 +1,4 @@
--- One more set in a partial: it is put if the layout with it fits, and the partial then has it.
+-- One more set in a message being written: it is put if the layout with it fits.
 use Rattle.dns_wire.proofs.Common.{◌≡◌, ◌↔◌, ℕ, ◌+◌, ◌≤◌, ◌^◌, Bool, true, false, cond, List, [], ◌∷◌, ◌++◌, length, drop, replicate, Option, None, refl, sym, ap, ◌∙◌, subst, subst₂, arith, All, IfSome, Some, append_assoc, append-nil, length-append, ◌<◌, lt_of_not-le, false≢true, Octets, DomainName, wire, RecordSet, records_at, Header, MessageQuestion, Spells, size, Sharing, IsWritable, IsAskable, sections_in_order, length-map, length-drop, flat_map-append, Item, Laid, laid_front, records_of, in_section, is_section, asked_octets, asked_placed, octets16, question_octets, layout, header_octets, message_of, shared_alone, layout_spells, past_limit, length-layout, Section, asked_places, new_places, Holds, records_laid, suffix_number, PartialMessage, partial_of, known_places, HasNames, IsPartial, empty_message, Writes, with_counted, counts_of, item_of, names_so_far, Counts}
 use Rattle.dns_spec.specs.Layout as Layout
 use Rattle.dns_wire.proofs.AskedLemmas.{asked_nothing, asked_whole}
@@ -56,7 +56,7 @@ counts_pushed : (q : Option MessageQuestion) (items : List Item) (section : Sect
     (length set.rdata) ≡ counts_of q (items ++ item_of section owner ttl set ∷ [])
 counts_pushed q items section owner ttl set = grind (arith, section_pushed, length-map)
 
--- a partial with the octets and the counts of a set that was put has one more set
+-- a message with the octets and the counts of a set that was put has one more set
 pub put_in : {head head' : Octets → ℕ} {d d' : PartialMessage} {n : Counts} (q : Option MessageQuestion)
     (items : List Item) (section : Section) (owner : DomainName) (ttl : ℕ) (set : RecordSet)
     → Writes head head' d d' (records_laid (records_at owner ttl set)) true
@@ -82,13 +82,13 @@ put_in {head} {d = d} {d'} q items section owner ttl set w counts partial =
       askable = partial.askable;
     }
 
--- a partial without sets
+-- a message without sets
 draft_begins : (head : Octets → ℕ) (q : Option MessageQuestion) (d : PartialMessage)
     → d.octets ≡ replicate 12 0 ++ asked_octets q → HasNames d head (asked_placed q)
     → d.counts ≡ counts_of q [] → IfSome q IsAskable → IsPartial head q [] d
 draft_begins head q d octets holds counts askable = grind (arith, records_none, append-nil)
 
--- an empty partial
+-- an empty message
 pub nothing_begins : (head : Octets → ℕ) (limit : ℕ) → IsPartial head None [] (empty_message limit)
 nothing_begins head limit =
     let number = suffix_number head in
@@ -96,7 +96,7 @@ nothing_begins head limit =
     (sym (append-nil (asked_places number (replicate 12 0) 12)
     ∙ asked_nothing number (replicate 12 0))) (holds_nothing number)) refl tt
 
--- a partial with only a question
+-- a message with only a question
 abbrev pub asked_message : ℕ → MessageQuestion → PartialMessage
 asked_message limit q = partial_of limit (replicate 12 0 ++ question_octets q) (12 + length
     (wire q.qname)) [] (record { questions = 1; answers = 0; authorities = 0; additionals = 0 })
@@ -123,7 +123,7 @@ asked_begins head limit q askable =
 abbrev pub header_of : Header → Counts → Octets
 header_of h n = header_octets h n.questions n.answers n.authorities n.additionals
 
--- the layout is the header, followed by the partial's octets after the first 12
+-- the layout is the header, followed by the octets so far, after the first 12
 pub draft_laid :
     {head : Octets → ℕ} (h : Header) (q : Option MessageQuestion) (items : List Item) (d : PartialMessage)
     → IsPartial head q items d → header_of h d.counts ++ drop 12 d.octets ≡ layout h q items
@@ -155,7 +155,7 @@ least_of q items limit false exactly low = (
   λ all. refl,
 )
 
--- the layout of a partial spells its message
+-- the layout of a message being written spells it
 pub draft_spelled : {head : Octets → ℕ} (h : Header) (q : Option MessageQuestion)
     (items : List Item) (d : PartialMessage) → IsPartial head q items d → h.id < 2 ^ 16
     → h.flags < 2 ^ 16 → sections_in_order items ≡ true → All IsWritable (records_of items)

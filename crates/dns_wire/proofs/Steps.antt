@@ -34,7 +34,7 @@ grows_not d = grind (arith, follows_none)
 pub grows_again : {d d' d'' : PartialMessage} → Grows d d' → Grows d' d'' → Grows d d''
 grows_again g h = grind (arith, follows_again)
 
--- a partial that has grown is as it was before once the additions are taken back
+-- a message that has grown is as it was before once the additions are taken back
 pub taken_back : {d d' : PartialMessage} {k j : ℕ} → Grows d d' → k ≡ length d.octets
     → j ≡ length d.kept → record d' { octets = take k d'.octets; kept = take j d'.kept } ≡ d
 taken_back {d} {d'} {k} {j} g octets kept = grind (arith, ap₂, take-append_seam)

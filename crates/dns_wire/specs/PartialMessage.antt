@@ -79,11 +79,11 @@ empty_message limit = record {
 abbrev pub known_places : (Octets → ℕ) → PartialMessage → List Kept
 known_places number d = asked_places number d.octets d.asked_end ++ d.kept
 
--- the partial with more octets at its end
+-- the message so far, with more octets at its end
 abbrev pub with_octets : PartialMessage → Octets → PartialMessage
 with_octets d o = record d { octets = d.octets ++ o }
 
--- the partial has the names `ms`, and its places are kept with numbers that use this hash
+-- the message so far has the names `ms`, and its places are kept with numbers that use this hash
 abbrev pub HasNames : PartialMessage → (Octets → ℕ) → List Placed → Type 0
 HasNames d head ms = Holds (suffix_number head) ms d.octets (known_places (suffix_number head) d)
 
@@ -107,8 +107,8 @@ pub record IsWritten (number : Octets → ℕ) (ms : List Placed) (old new : Par
       → Holds number ms x (known_places number old)
       → StandsIn number ms x laid (known_places number new))
 
--- A step that writes what `layout` gives after the partial's names, provided that `known` holds for
--- them. The borrowed hash gives the same numbers before and after the step.
+-- A step that writes what `layout` gives after the names so far, provided that `known` holds for
+-- them. The caller's hash gives the same numbers before and after the step.
 pub record WritesAfter (known : List Placed → Type 0) (head head' : Octets → ℕ) (old new : PartialMessage)
     (layout : Layout) (fits : Bool) : Type 0 where
   pub grows : Grows old new
@@ -116,7 +116,7 @@ pub record WritesAfter (known : List Placed → Type 0) (head head' : Octets →
   pub written : (ms : List Placed) → HasNames old head ms → known ms
       → IsWritten (suffix_number head) ms old new (layout ms (length old.octets)) fits
 
--- a step that writes what the layout gives after the partial's names, whatever they are
+-- a step that writes what the layout gives after the names so far, whatever they are
 abbrev pub Writes : (Octets → ℕ) → (Octets → ℕ) → PartialMessage → PartialMessage → Layout → Bool → Type 0
 Writes = WritesAfter (λ ms. ⊤)
 
@@ -126,7 +126,7 @@ names_so_far q items =
     asked_placed q
     ++ (records_laid (records_of items) (asked_placed q) (12 + length (asked_octets q))).names
 
--- The partial contains this question and these sets, laid out, and the question fits its fields.
+-- The message so far is this question and these sets, laid out, and the question fits its fields.
 pub record IsPartial (head : Octets → ℕ) (q : Option MessageQuestion) (items : List Item)
     (d : PartialMessage) : Type 0 where
   pub written : d.octets
@@ -137,7 +137,7 @@ pub record IsPartial (head : Octets → ℕ) (q : Option MessageQuestion) (items
   pub askable : IfSome q IsAskable
 
 -- What always holds for a builder with room for N places and `size` octets. Its limit is at most
--- `size`, and any question fits within it. The builder never has more records than octets.
+-- `size`, and any question fits within it. The message never has more records than octets.
 pub record IsWellKept (N size : ℕ) (d : PartialMessage) : Type 0 where
   pub least : 512 ≤ d.limit
   pub within : length d.octets ≤ d.limit

@@ -31,16 +31,16 @@ pub enum Section {
     Additional,
 }
 
-/// A message being written. It stores everything inline, without allocating: up to `N` places of
+/// A message being written. It stores everything inline, without allocating: up to `N` offsets of
 /// name suffixes, and `SIZE` octets.
 #[derive(Drop)]
 pub struct MessageBuilder<const N: usize, const SIZE: usize> {
     octets: ArrayVec<u8, SIZE>,
-    // The places of the suffixes of names after the question, which later names may point to.
+    // The offsets of the suffixes of names after the question, which later names may point to.
     places: SuffixOffsets<N>,
     limit: usize,
     // The place where the question's name ends; without a question, the place where the header
-    // ends. `places` has none of the suffixes of that name, since their places follow from this
+    // ends. `places` has none of the suffixes of that name, since their offsets follow from this
     // one.
     asked_end: usize,
     counts: Counts,
@@ -60,7 +60,7 @@ impl<const N: usize, const SIZE: usize> Model for MessageBuilder<N, SIZE> {
 impl<const N: usize, const SIZE: usize> MessageBuilder<N, SIZE> {
     ghost use Rattle.dns_wire.specs.PartialMessage.{IsPartial, empty_message, with_set};
 
-    /// An empty message of at most `limit` octets, 512 to 65,535.
+    /// A builder with an empty message of at most `limit` octets, 512 to 65,535.
     ///
     /// Conditions: `SIZE` is at least `limit`. `N` is at least half of `SIZE`, but never more than
     /// 8,192, which always suffices: a pointer reaches 16,384 octets, and a label takes at least

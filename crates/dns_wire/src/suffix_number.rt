@@ -1,4 +1,4 @@
-//! The number of a suffix, by which its place is found among the places kept.
+//! The number of a suffix, by which its offset is found among those kept.
 ghost use Rattle.std.specs.Prelude.{◌≡◌, ◌<◌, ◌≤◌, ◌^◌, length, take, drop, ◌+◌};
 ghost use Rattle.std.specs.Int.{from_le_bytes, w64};
 ghost use Rattle.dns_wire.specs.SuffixNumbers.{suffix_number, octets_number, mixed};

@@ -1,4 +1,4 @@
-//! The places of the suffixes of names after the question, found by a hash of the suffix (RFC 1035
+//! The offsets of the suffixes of names after the question, found by a hash of the suffix (RFC 1035
 //! 4.1.4).
 ghost use Rattle.std.specs.Prelude.{◌≡◌, ◌-◌, ◌<◌, ◌≤◌, [], ◌∷◌, ◌++◌, length, take, IfSome, IsNone};
 ghost use Rattle.dns_wire.specs.Chains.{chain_of};
@@ -8,7 +8,7 @@ use crate::spelled::is_spelled;
 use arrayvec::ArrayVec;
 use std::marker::Model;
 
-// The number of chains of places: a suffix with number k is in chain k / 2 modulo `HEADS`.
+// The number of chains of offsets: a suffix with number k is in chain k / 2 modulo `HEADS`.
 //
 // Whatever the hash, a chain contains suffixes of only four lengths, 64 octets apart, since six of
 // the seven bits that choose the chain are bits of the length. So it contains at most one suffix
@@ -17,7 +17,7 @@ use std::marker::Model;
 // octets with at most about 82 suffixes of its length.
 const HEADS: usize = 128;
 
-// The place of a suffix; in `next`, the index, counted from 1, of the previous entry of the same
+// The offset of a suffix; in `next`, the index, counted from 1, of the previous entry of the same
 // chain, or 0 for the chain's oldest entry; and the number of the suffix.
 #[derive(Clone, Copy, Default)]
 struct KeptPlace {
@@ -26,8 +26,8 @@ struct KeptPlace {
     number: u32,
 }
 
-/// SuffixOffsets, each with the number of its suffix (`number_of`, a hash), in the order in which they
-/// were added. The octets of a suffix are only in the message.
+/// Offsets of suffixes, each with the number of its suffix (`number_of`, a hash), in the order in
+/// which they were added. The octets of a suffix are only in the message.
 #[derive(Drop)]
 pub(crate) struct SuffixOffsets<const N: usize> {
     // The index, counted from 1, of the newest entry of each chain; 0 for an empty chain.
@@ -66,7 +66,7 @@ impl<const N: usize> SuffixOffsets<N> {
         self.entries.len()
     }
 
-    /// Adds the place of a suffix with this number.
+    /// Adds the offset of a suffix with this number.
     pub(crate) fn insert(&mut self, place: u16, number: u32)
         requires few { N ≤ 8192 }
         requires room { length self.old < N }
@@ -82,7 +82,7 @@ impl<const N: usize> SuffixOffsets<N> {
         self.heads[chain_of(number)] = self.entries.len() as u16;
     }
 
-    /// Removes all but the first `count` places, as if the later ones had never been added.
+    /// Removes all but the first `count` offsets, as if the later ones had never been added.
     pub(crate) fn take_back(&mut self, count: usize)
         ensures { self.new ≡ take count self.old }
     {
@@ -93,7 +93,7 @@ impl<const N: usize> SuffixOffsets<N> {
         }
     }
 
-    /// The newest of the places with this number at which the message spells the suffix.
+    /// The newest of the offsets with this number at which the message spells the suffix.
     pub(crate) fn find(&self, number: u32, message: &[u8], suffix: &[u8]) -> Option<u16>
         ensures kept { IfSome result (λ place. IsKept self.now place number) }
         ensures spelled { IfSome result (λ place. SpellsSuffix message.now place suffix.now) }

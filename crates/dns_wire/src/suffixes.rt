@@ -1,5 +1,5 @@
 //! Compression of names: finds the longest suffix of a name that a pointer may replace, and keeps
-//! the places of the longer suffixes (RFC 1035 4.1.4).
+//! the offsets of the longer suffixes (RFC 1035 4.1.4).
 ghost use Rattle.std.specs.Prelude.{◌≡◌, List, ◌+◌, ◌-◌, ◌*◌, ◌≤◌, ◌<◌, ◌^◌, [], ◌∷◌, ◌++◌, length, drop, min, IsTrue, IfSome, IsNone, ℕ, false};
 ghost use Rattle.dns_spec.specs.Names.{Octets, DomainName, wire, is_name};
 ghost use Rattle.dns_spec.specs.Layout.{Placed, shared_octets};
@@ -12,12 +12,12 @@ use crate::suffix_number::number_of;
 use crate::suffix_offsets::{SuffixHash, SuffixOffsets};
 use dns_name::ends_with;
 
-// The last place that the 14 bits of a pointer reach.
+// The last offset that the 14 bits of a pointer reach.
 pub(crate) const LAST_OFFSET: usize = 16383;
 
 /// How a name, given in its wire form, is laid out in `room` octets: the number of octets before
-/// the longest suffix that a pointer may replace, and the place of that suffix; or the number of
-/// octets before the root, and no place. Suffixes are tried from the longest. `None` if the labels
+/// the longest suffix that a pointer may replace, and the offset of that suffix; or the number of
+/// octets before the root, and no offset. Suffixes are tried from the longest. `None` if the labels
 /// before a suffix leave no room for two more octets: then the name does not fit.
 pub(crate) fn shared_suffix<H: SuffixHash, const N: usize>(
     places: &SuffixOffsets<N>,
@@ -56,7 +56,7 @@ pub(crate) fn shared_suffix<H: SuffixHash, const N: usize>(
     Some((name.len() - rest.len(), None))
 }
 
-// A place at which the message spells a suffix: in the question's name, or else one of `places`. If
+// An offset at which the message spells a suffix: in the question's name, or else one of `places`. If
 // `places` is empty, nothing is hashed.
 fn find_suffix<H: SuffixHash, const N: usize>(
     places: &SuffixOffsets<N>,
@@ -84,8 +84,8 @@ fn find_suffix<H: SuffixHash, const N: usize>(
     places.find(number, message, suffix)
 }
 
-// The place of `suffix` in the question's name, which ends at place `end`. `None` for the root, and
-// if the name does not end with `suffix`. Such places need not be kept, since the distance of each
+// The offset of `suffix` in the question's name, which ends at place `end`. `None` for the root, and
+// if the name does not end with `suffix`. Such offsets need not be kept, since the distance of each
 // from `end` is the suffix's length. Inlining saves up to 5 % of the work for a reply.
 #[inline(always)]
 pub(crate) fn offset_before(message: &[u8], end: usize, suffix: &[u8]) -> Option<u16>
@@ -128,7 +128,7 @@ fn has_last_labels(name: &[u8], suffix: &[u8]) -> bool
     rest.len() == suffix.len()
 }
 
-/// Adds to `places` the places of a name's suffixes. The name is laid out at place `at`. Only
+/// Adds to `places` the offsets of a name's suffixes. The name is laid out at place `at`. Only
 /// suffixes count that begin in its first `front` octets and within the reach of a pointer.
 pub(crate) fn keep_suffixes<H: SuffixHash, const N: usize>(
     places: &mut SuffixOffsets<N>,

@@ -1,4 +1,4 @@
-//! A message of up to 65,535 octets being written, with a borrowed hash (RFC 1035 4.1).
+//! A message of up to 65,535 octets being written, with the caller's hash (RFC 1035 4.1).
 ghost use Rattle.std.specs.Prelude.{◌≡◌, ◌↔◌, ℕ, ◌<◌, ◌≤◌, List, [], length, take, IsTrue, IsFalse, Option, All};
 ghost use Rattle.std.specs.Option.{option_copied};
 ghost use Rattle.std.specs.Bool.{OnTrue, OnFalse};
@@ -16,7 +16,7 @@ use crate::suffix_offsets::SuffixHash;
 use dns_name::Name;
 use dns_rdata::SetView;
 
-/// A message being written: a builder of the greatest size, and the borrowed hash by which suffixes
+/// Writes a message: a builder with room for the longest message, and the caller's hash, by which suffixes
 /// are found.
 #[derive(Drop)]
 pub struct Writer<'h, H: SuffixHash> {

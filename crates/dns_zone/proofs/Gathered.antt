@@ -1,14 +1,14 @@
--- Moving records to the places that they have in a list of places.
+-- Moving records to the indexes of their sort keys.
 use Rattle.dns_zone.proofs.Common.{◌≡◌, ℕ, ◌+◌, ◌<◌, ◌≤◌, ◌⊎◌, inl, inr, List, length, take, map, set, get_or, sym, ap, ◌∙◌, arith, length-map, length-take, length-set, get_or-map, get_or-take, get_or-set_same, get_or-set_other, get_or_default, min-eq_left, subst, SwappedAt, ResourceRecord, AreApart, no_record, placed, SortKey}
 use Rattle.dns_zone.proofs.SortKeyOrder.{either}
 use Rattle.std.proofs.lemmas.List.{ext_get_or}
 
--- stands for a place that does not exist
-abbrev pub no_place : SortKey
-no_place = record { front = 0; next = 0; at = 0; start = 0 }
+-- stands for a sort key that does not exist
+abbrev pub no_sort_key : SortKey
+no_sort_key = record { front = 0; next = 0; at = 0; start = 0 }
 
 -- The records `now` are the records `old`, moved: `record_at` has the old index of the record at
--- each index, and `index_of` the index of each old record. The first `to` places are filled.
+-- each index, and `index_of` the index of each old record. The first `to` sort keys are filled.
 pub record IsGathered (old now : List ResourceRecord) (index_of record_at : List ℕ)
     (ps : List SortKey) (to : ℕ) : Type 0 where
   pub size : length now ≡ length old
@@ -24,9 +24,9 @@ pub record IsGathered (old now : List ResourceRecord) (index_of record_at : List
 module _ (old now next : List ResourceRecord) (index_of record_at : List ℕ) (ps : List SortKey)
     (to : ℕ) (h : IsGathered old now index_of record_at ps to) (apart : AreApart ps)
     (inside : to < length ps) (fewer : length ps ≤ length old)
-    (place : SortKey) (is : place ≡ get_or ps to place) (at : place.at < length old) where
+    (sort_key : SortKey) (is : sort_key ≡ get_or ps to sort_key) (at : sort_key.at < length old) where
   abbrev j : ℕ
-  j = place.at
+  j = sort_key.at
 
   abbrev p : ℕ
   p = get_or index_of j 0
@@ -122,13 +122,13 @@ module _ (old now next : List ResourceRecord) (index_of record_at : List ℕ) (p
       go : (k ≡ to) ⊎ (k ≡ to → ⊥) → get_or record_at' k 0 ≡ (get_or ps k d).at
       go (inl e) =
           ap (λ i. get_or record_at' i 0) e ∙ record_to
-          ∙ ap (λ (q : SortKey). q.at) (is ∙ sym (get_or_default ps to d place inside))
+          ∙ ap (λ (q : SortKey). q.at) (is ∙ sym (get_or_default ps to d sort_key inside))
           ∙ ap (λ i. (get_or ps i d).at) (sym e)
       go (inr n) =
           let done = h.done k d (omega (arith, l, n)) in
           record_other k n (λ f. n (apart k to d (omega (arith, l, n, inside)) inside
           (sym done ∙ ap (λ i. get_or record_at i 0) f ∙ p_has
-          ∙ ap (λ (q : SortKey). q.at) (is ∙ sym (get_or_default ps to d place inside))))) ∙ done
+          ∙ ap (λ (q : SortKey). q.at) (is ∙ sym (get_or_default ps to d sort_key inside))))) ∙ done
 
   one_more : SwappedAt now next to p → length next ≡ length now
       → IsGathered old next index_of' record_at' ps (to + 1)
@@ -148,7 +148,7 @@ module _ (old now next : List ResourceRecord) (index_of record_at : List ℕ) (p
       (set (set index_of other from) j to) (set (set record_at from other) to j) ps (to + 1)
   one_step from other e f s size = rw (e, f) (one_more (subst (SwappedAt now next to) e s) size)
 
--- at the end, the first records are those at the places
+-- at the end, the first records are those at the sort keys
 pub all_gathered : (old now : List ResourceRecord) (index_of record_at : List ℕ) (ps : List SortKey)
     → IsGathered old now index_of record_at ps (length ps) → length ps ≤ length old
     → take (length ps) now ≡ map (placed old no_record) ps
@@ -163,5 +163,5 @@ all_gathered old now index_of record_at ps h fewer =
         → get_or (take (length ps) now) i no_record ≡ get_or (map (placed old no_record) ps) i no_record
     each i l =
         grind (arith, get_or-take) ∙ h.from i no_record (omega (arith, l, fewer))
-        ∙ ap (λ k. get_or old k no_record) (h.done i no_place l)
-        ∙ sym (get_or-map (placed old no_record) ps i no_place no_record l)
+        ∙ ap (λ k. get_or old k no_record) (h.done i no_sort_key l)
+        ∙ sym (get_or-map (placed old no_record) ps i no_sort_key no_record l)

@@ -1,4 +1,4 @@
--- The way down to a name, from the way to the name above it.
+-- The path down to a name, from the path to the name above it.
 use Rattle.dns_zone.proofs.Common.{◌≡◌, ℕ, suc, ◌+◌, ◌≤◌, Bool, true, false, cond, ◌||◌, ◌&&◌, List, [], ◌∷◌, map, reverse, length, None, Some, refl, sym, ap, ◌∙◌, arith, false≢true, and_parts, ltb-true, false_from_ne_true, length-map, reverse-append, to_ascii_lowercase, option_or, is_some, Octets, DomainName, folded, names_equal, same, at_or_below, below, suffixes, type_ns, ResourceRecord, ZoneContents, at, owns, rrset, sort_by, insert_by, data_order, set_of, folded_folded, find-append, find, filter, list_any, exists, is_cut, cut_of, closest_encloser, without_first, at_or_below-cons, same-length}
 use Rattle.dns_zone.proofs.ChildNames.{cons_under}
 use Rattle.dns_zone.proofs.NameTree.{under-trans}

@@ -1,5 +1,5 @@
 -- Places are in the order of their records.
-use Rattle.dns_zone.proofs.Common.{◌≡◌, ℕ, zero, suc, ◌-◌, ◌≤◌, ◌⊎◌, inl, inr, [], ◌∷◌, length, subst, wire, IsEight, take, drop, min-eq_left, take_all, drop_all, cases_lt, refl, sym, ap, ap₂, ◌∙◌, arith, Ordering, Less, Equal, Greater, cases_order, nat_cmp, nat_cmp_is, nat_cmp_total, nat_list_cmp_total, IsTotalOrder, then_total, on_total, ordering_then, ordering_reverse, slice_cmp, tied_itself, alike_right, List, Octets, ResourceRecord, LowerOwner, record_order, name_key, placed, place_key, place_order, own_order, AreFronts, IsPlace, SortKey}
+use Rattle.dns_zone.proofs.Common.{◌≡◌, ℕ, zero, suc, ◌-◌, ◌≤◌, ◌⊎◌, inl, inr, [], ◌∷◌, length, subst, wire, IsEight, take, drop, min-eq_left, take_all, drop_all, cases_lt, refl, sym, ap, ap₂, ◌∙◌, arith, Ordering, Less, Equal, Greater, cases_order, nat_cmp, nat_cmp_is, nat_cmp_total, nat_list_cmp_total, IsTotalOrder, then_total, on_total, ordering_then, ordering_reverse, slice_cmp, tied_itself, alike_right, List, Octets, ResourceRecord, LowerOwner, record_order, name_key, placed, sorted_key, sort_key_order, own_order, AreFronts, IsSortKey, SortKey}
 use Rattle.std.specs.Prelude.{min}
 use Rattle.std.proofs.Math.Nat.{min-eq_right}
 use Rattle.dns_zone.proofs.KeyOrder.{key_order}
@@ -12,12 +12,12 @@ own_total =
     (then_total (on_total (λ (r : ResourceRecord). r.rdata) nat_list_cmp_total)
     (on_total (λ (r : ResourceRecord). r.ttl) nat_cmp_total))
 
-pub place_order_total : (keys : Octets) (rs : List ResourceRecord) (first : ResourceRecord)
-    → IsTotalOrder (place_order keys rs first)
-place_order_total keys rs first =
+pub sort_key_order_total : (keys : Octets) (rs : List ResourceRecord) (first : ResourceRecord)
+    → IsTotalOrder (sort_key_order keys rs first)
+sort_key_order_total keys rs first =
     then_total (on_total (λ (p : SortKey). p.front) nat_cmp_total)
     (then_total (on_total (λ (p : SortKey). p.next) nat_cmp_total)
-    (then_total (on_total (place_key keys rs first) nat_list_cmp_total)
+    (then_total (on_total (sorted_key keys rs first) nat_list_cmp_total)
     (on_total (placed rs first) own_total)))
 
 -- lists of which the first n octets differ, and lists of which they are equal
@@ -69,15 +69,15 @@ alike f g i j c l m =
 pub either : (a b : ℕ) → (a ≡ b) ⊎ (a ≡ b → ⊥)
 either a b = grind (arith, inl, inr, cases_order)
 
--- places that share a key
+-- sort keys that share a key
 pub shared_key : (keys : Octets) (rs : List ResourceRecord) (first : ResourceRecord) (p q : SortKey)
     → p.start ≡ q.start
     → length (wire (placed rs first p).owner) ≡ length (wire (placed rs first q).owner)
-    → Equal ≡ slice_cmp nat_cmp (place_key keys rs first p) (place_key keys rs first q)
+    → Equal ≡ slice_cmp nat_cmp (sorted_key keys rs first p) (sorted_key keys rs first q)
 shared_key keys rs first p q e f =
-    sym (ap (λ k. slice_cmp nat_cmp k (place_key keys rs first q))
+    sym (ap (λ k. slice_cmp nat_cmp k (sorted_key keys rs first q))
     (ap₂ (λ s n. take (n - 1) (drop s keys)) e f)
-    ∙ tied_itself nat_list_cmp_total (place_key keys rs first q))
+    ∙ tied_itself nat_list_cmp_total (sorted_key keys rs first q))
 
 module _ (o : Octets) where
   abbrev side : Octets → Ordering
@@ -183,11 +183,11 @@ module _ (o : Octets) where
           alike f g i j (slice_cmp nat_cmp a b) ((p.greater h).0 ∙ sym (q.greater k).0)
           ((p.greater h).1 ∙ sym (q.greater k).1)
 
--- places are in the order of their records
+-- sort keys are in the order of their records
 module _ (origin keys : Octets) (rs : List ResourceRecord) (first : ResourceRecord) where
-  pub placed_order : (p q : SortKey) → IsPlace origin keys rs p → IsPlace origin keys rs q
+  pub placed_order : (p q : SortKey) → IsSortKey origin keys rs p → IsSortKey origin keys rs q
       → LowerOwner (placed rs first p) → LowerOwner (placed rs first q)
-      → place_order keys rs first p q ≡ record_order (placed rs first p) (placed rs first q)
+      → sort_key_order keys rs first p q ≡ record_order (placed rs first p) (placed rs first q)
   placed_order p q h k low_p low_q =
       let a = name_key (placed rs first p).owner in
       let b = name_key (placed rs first q).owner in

@@ -1,7 +1,7 @@
--- Sorted places without those of duplicates are those of the records in canonical order.
-use Rattle.dns_zone.proofs.Common.{◌≡◌, ℕ, zero, suc, ◌<◌, ◌≤◌, inl, inr, List, [], ◌∷◌, All, AllByRecursion, Ordering, name_key, length-map, get_or-map, ap₂, recursion_from_All, All-weaker, length, map, get_or, refl, sym, ap, ◌∙◌, arith, true, is_eq, Less, Equal, subst, get_or_default, cases_order, tied_itself, IsPermutation, IsSorted, Octets, ResourceRecord, IsReadRecord, LowerOwner, record_order, record_order_total, record_ties, one_record, records_equal, distinct, sort_by, rises_canonical, Among, Rises, among_contains, among_distinct, among_sort, distinct_among, sort_among, same_risen, AreApart, ArePlaces, AreSorted, IsPlace, no_record, place_key, place_order, placed, SortKey}
-use Rattle.dns_zone.proofs.Gathered.{no_place}
-use Rattle.dns_zone.proofs.SortKeyOrder.{place_order_total, placed_order}
+-- Sorted sort keys without those of duplicates are those of the records in canonical order.
+use Rattle.dns_zone.proofs.Common.{◌≡◌, ℕ, zero, suc, ◌<◌, ◌≤◌, inl, inr, List, [], ◌∷◌, All, AllByRecursion, Ordering, name_key, length-map, get_or-map, ap₂, recursion_from_All, All-weaker, length, map, get_or, refl, sym, ap, ◌∙◌, arith, true, is_eq, Less, Equal, subst, get_or_default, cases_order, tied_itself, IsPermutation, IsSorted, Octets, ResourceRecord, IsReadRecord, LowerOwner, record_order, record_order_total, record_ties, one_record, records_equal, distinct, sort_by, rises_canonical, Among, Rises, among_contains, among_distinct, among_sort, distinct_among, sort_among, same_risen, AreApart, AreSortKeys, AreSorted, IsSortKey, no_record, sorted_key, sort_key_order, placed, SortKey}
+use Rattle.dns_zone.proofs.Gathered.{no_sort_key}
+use Rattle.dns_zone.proofs.SortKeyOrder.{sort_key_order_total, placed_order}
 use Rattle.dns_spec.proofs.General.Elements.{each_map, each_both, each_at, among_get, among_mapped}
 use Rattle.std.proofs.lemmas.List.Filters.{All-dedup}
 use Rattle.std.proofs.lemmas.List.Kept.{Any-dedup, IsStrictlySortedBy-dedup}
@@ -30,66 +30,66 @@ module _ (origin keys : Octets) (rs : List ResourceRecord) (first : ResourceReco
   f = placed rs first
 
   abbrev R : SortKey → SortKey → Ordering
-  R = place_order keys rs first
+  R = sort_key_order keys rs first
 
-  lower : (p : SortKey) → IsPlace origin keys rs p → LowerOwner (f p)
+  lower : (p : SortKey) → IsSortKey origin keys rs p → LowerOwner (f p)
   lower p h = (low p.at first h.inside).lower_owner
 
-  order : (p q : SortKey) → IsPlace origin keys rs p → IsPlace origin keys rs q
+  order : (p q : SortKey) → IsSortKey origin keys rs p → IsSortKey origin keys rs q
       → R p q ≡ record_order (f p) (f q)
   order p q h k = placed_order origin keys rs first p q h k (lower p h) (lower q k)
 
-  rises : (ps : List SortKey) → AllByRecursion (IsPlace origin keys rs) ps
+  rises : (ps : List SortKey) → AllByRecursion (IsSortKey origin keys rs) ps
       → IsStrictlySortedBy R ps → Rises record_order (map f ps)
   unfolding IsStrictlySortedBy
   rises [] e s = tt
   rises (p ∷ ps) e s = (
     each_map (λ r. record_order (f p) r ≡ Less) f ps
-        (each_both (IsPlace origin keys rs) (λ q. R p q ≡ Less)
+        (each_both (IsSortKey origin keys rs) (λ q. R p q ≡ Less)
         (λ q. record_order (f p) (f q) ≡ Less) ps (λ q k l. sym (order p q e.0 k) ∙ l) e.1 s.0),
     rises ps e.1 s.1,
   )
 
-  inside_among : (ps : List SortKey) → AllByRecursion (IsPlace origin keys rs) ps
+  inside_among : (ps : List SortKey) → AllByRecursion (IsSortKey origin keys rs) ps
       → (a : ResourceRecord) → Among a (map f ps) → Among a rs
   inside_among [] e a m = absurd m
   inside_among (p ∷ ps) e a (inl g) =
       subst (λ r. Among r rs) (sym g) (among_get rs p.at first e.0.inside)
   inside_among (p ∷ ps) e a (inr m) = inside_among ps e.1 a m
 
-  module _ (ps qs : List SortKey) (all : ArePlaces origin keys rs ps) (moved : IsPermutation ps qs)
+  module _ (ps qs : List SortKey) (all : AreSortKeys origin keys rs ps) (moved : IsPermutation ps qs)
       (sorted : IsSorted R qs) where
     abbrev ds : List SortKey
     ds = dedup (eq_by_cmp R) qs
 
-    each_sorted : All (IsPlace origin keys rs) qs
-    each_sorted = All-permutation (IsPlace origin keys rs) ps qs moved all.each
+    each_sorted : All (IsSortKey origin keys rs) qs
+    each_sorted = All-permutation (IsSortKey origin keys rs) ps qs moved all.each
 
-    each : All (IsPlace origin keys rs) ds
-    each = All-dedup (eq_by_cmp R) (IsPlace origin keys rs) qs each_sorted
+    each : All (IsSortKey origin keys rs) ds
+    each = All-dedup (eq_by_cmp R) (IsSortKey origin keys rs) qs each_sorted
 
     strictly : IsStrictlySortedBy R ds
-    strictly = IsStrictlySortedBy-dedup (place_order_total keys rs first) (λ p q. refl) qs sorted
+    strictly = IsStrictlySortedBy-dedup (sort_key_order_total keys rs first) (λ p q. refl) qs sorted
 
     risen : Rises record_order (map f ds)
-    risen = rises ds (recursion_from_All (IsPlace origin keys rs) ds each) strictly
+    risen = rises ds (recursion_from_All (IsSortKey origin keys rs) ds each) strictly
 
-    -- each record is at one of the places
+    -- each record is at one of the sort keys
     kept : (a : ResourceRecord) → Among a rs → Among a (map f ds)
     kept a m =
         let (k, l, e) = among_contains a rs m in
         let count = all.count in
         let inside : k < length ps = omega (arith, l, count) in
-        let p = get_or ps k no_place in
-        let at = all.at k no_place inside in
-        let place = all.each k no_place inside in
+        let p = get_or ps k no_sort_key in
+        let at = all.at k no_sort_key inside in
+        let sort_key = all.each k no_sort_key inside in
         let there : Contains qs p =
-        Contains-permutation ps qs p moved (k, inside, get_or_default ps k p no_place inside) in
-        let (i, q, within, is, tie) = Any-dedup (eq_by_cmp_equiv (place_order_total keys rs first)) qs
+        Contains-permutation ps qs p moved (k, inside, get_or_default ps k p no_sort_key inside) in
+        let (i, q, within, is, tie) = Any-dedup (eq_by_cmp_equiv (sort_key_order_total keys rs first)) qs
         p there in
-        let other = subst (IsPlace origin keys rs) is (each i q within) in
-        let same : f p ≡ f q = one_record (f p) (f q) (lower p place) (lower q other)
-        (record_ties (f p) (f q) ∙ ap is_eq (sym (order p q place other)) ∙ tie) in
+        let other = subst (IsSortKey origin keys rs) is (each i q within) in
+        let same : f p ≡ f q = one_record (f p) (f q) (lower p sort_key) (lower q other)
+        (record_ties (f p) (f q) ∙ ap is_eq (sym (order p q sort_key other)) ∙ tie) in
         let owner : f p ≡ a = ap (λ j. get_or rs j first) at ∙ get_or_default rs k first a l ∙ e in
         subst (λ r. Among r (map f ds)) (sym same ∙ owner)
         (among_mapped f q ds (subst (λ x. Among x ds) is (among_get ds i q within)))
@@ -103,11 +103,11 @@ module _ (origin keys : Octets) (rs : List ResourceRecord) (first : ResourceReco
         (λ a m. among_sort record_order a (distinct records_equal rs)
         (among_distinct record_order record_order_total records_equal tie LowerOwner one_record a rs
         (recursion_from_All LowerOwner rs (All-weaker IsReadRecord LowerOwner (λ r h. h.lower_owner)
-        rs low)) (inside_among ds (recursion_from_All (IsPlace origin keys rs) ds each) a m)))
+        rs low)) (inside_among ds (recursion_from_All (IsSortKey origin keys rs) ds each) a m)))
         (λ a m. kept a (distinct_among records_equal a rs
         (sort_among record_order a (distinct records_equal rs) m)))
 
-    same_first : (es : List SortKey) → AllByRecursion (IsPlace origin keys rs) es
+    same_first : (es : List SortKey) → AllByRecursion (IsSortKey origin keys rs) es
         → map (placed rs no_record) es ≡ map f es
     same_first [] e = refl
     same_first (p ∷ es) e =
@@ -133,12 +133,12 @@ module _ (origin keys : Octets) (rs : List ResourceRecord) (first : ResourceReco
         let count = all.count in
         let size = length_permutation ps qs moved in
         record {
-          inside = All-weaker (IsPlace origin keys rs) (λ p. p.at < length rs) (λ p h. h.inside) ds
+          inside = All-weaker (IsSortKey origin keys rs) (λ p. p.at < length rs) (λ p h. h.inside) ds
               each;
           apart = apart;
           fewer = omega (arith, short, count, size);
-          key = All-weaker (IsPlace origin keys rs)
-              (λ p. place_key keys rs no_record p ≡ name_key (placed rs no_record p).owner)
+          key = All-weaker (IsSortKey origin keys rs)
+              (λ p. sorted_key keys rs no_record p ≡ name_key (placed rs no_record p).owner)
               (λ p h. h.key no_record) ds each;
-          whole = same_first ds (recursion_from_All (IsPlace origin keys rs) ds each) ∙ whole;
+          whole = same_first ds (recursion_from_All (IsSortKey origin keys rs) ds each) ∙ whole;
         }

@@ -1,4 +1,4 @@
--- Places of records: their order, and what is known of them.
+-- Sort keys of records: their order, and what is known of them.
 use Rattle.std.specs.Prelude.{◌≡◌, ℕ, ◌-◌, ◌^◌, ◌<◌, ◌≤◌, List, [], All, length, take, drop, get_or, map}
 use Rattle.std.specs.Ordering.{ordering_then, nat_cmp}
 use Rattle.std.specs.declared.cmp.Ordering.{Ordering}
@@ -15,13 +15,13 @@ use Rattle.dns_zone.specs.declared.order.sort_key.SortKey.{SortKey}
 abbrev pub no_record : ResourceRecord
 no_record = record { owner = []; ttl = 0; rtype = 0; rdata = [] }
 
--- the record at a place, or `first` if there is none
+-- the record of a sort key, or `first` if there is none
 abbrev pub placed : List ResourceRecord → ResourceRecord → SortKey → ResourceRecord
 placed rs first p = get_or rs p.at first
 
--- the key of the owner of the record at a place
-abbrev pub place_key : Octets → List ResourceRecord → ResourceRecord → SortKey → Octets
-place_key keys rs first p = key_in keys p.start (placed rs first p).owner
+-- the key of the owner of a sort key's record
+abbrev pub sorted_key : Octets → List ResourceRecord → ResourceRecord → SortKey → Octets
+sorted_key keys rs first p = key_in keys p.start (placed rs first p).owner
 
 -- the order of records of one owner
 abbrev pub own_order : ResourceRecord → ResourceRecord → Ordering
@@ -29,10 +29,10 @@ own_order r s =
     ordering_then (nat_cmp r.rtype s.rtype) (ordering_then (data_order r s) (nat_cmp r.ttl s.ttl))
 
 -- by the numbers, then by the keys of the owners, then by the records of one owner
-abbrev pub place_order : Octets → List ResourceRecord → ResourceRecord → SortKey → SortKey → Ordering
-place_order keys rs first p q =
+abbrev pub sort_key_order : Octets → List ResourceRecord → ResourceRecord → SortKey → SortKey → Ordering
+sort_key_order keys rs first p q =
     ordering_then (nat_cmp p.front q.front) (ordering_then (nat_cmp p.next q.next)
-    (ordering_then (slice_cmp nat_cmp (place_key keys rs first p) (place_key keys rs first q))
+    (ordering_then (slice_cmp nat_cmp (sorted_key keys rs first p) (sorted_key keys rs first q))
     (own_order (placed rs first p) (placed rs first q))))
 
 -- The numbers of a key: its first sixteen octets after the origin's key. If it does not begin with
@@ -47,29 +47,29 @@ pub record AreFronts (origin key : Octets) (front next : ℕ) : Type 0 where
   pub front_fits : front < 2 ^ 64
   pub next_fits : next < 2 ^ 64
 
--- a place of a record, with the key of its owner and the numbers of this key
-pub record IsPlace (origin keys : Octets) (rs : List ResourceRecord) (p : SortKey) : Type 0 where
+-- a sort key of a record, with the key of its owner and the numbers of this key
+pub record IsSortKey (origin keys : Octets) (rs : List ResourceRecord) (p : SortKey) : Type 0 where
   pub inside : p.at < length rs
-  pub key : (r : ResourceRecord) → place_key keys rs r p ≡ name_key (placed rs r p).owner
+  pub key : (r : ResourceRecord) → sorted_key keys rs r p ≡ name_key (placed rs r p).owner
   pub fronts : (r : ResourceRecord)
       → AreFronts origin (name_key (placed rs r p).owner) p.front p.next
 
--- the places of all records, in the order of the records
-pub record ArePlaces (origin keys : Octets) (rs : List ResourceRecord)
+-- the sort keys of all records, in the order of the records
+pub record AreSortKeys (origin keys : Octets) (rs : List ResourceRecord)
     (ps : List SortKey) : Type 0 where
   pub count : length ps ≡ length rs
-  pub each : All (IsPlace origin keys rs) ps
+  pub each : All (IsSortKey origin keys rs) ps
   pub at : (i : ℕ) (d : SortKey) → i < length ps → (get_or ps i d).at ≡ i
 
--- no two places are of one record
+-- no two sort keys are of one record
 abbrev pub AreApart : List SortKey → Type 0
 AreApart ps = (i j : ℕ) (d : SortKey) → i < length ps → j < length ps
     → (get_or ps i d).at ≡ (get_or ps j d).at → i ≡ j
 
--- the places of the records in canonical order, without duplicates
+-- the sort keys of the records in canonical order, without duplicates
 pub record AreSorted (keys : Octets) (rs : List ResourceRecord) (ps : List SortKey) : Type 0 where
   pub inside : All (λ (p : SortKey). p.at < length rs) ps
   pub apart : AreApart ps
   pub fewer : length ps ≤ length rs
-  pub key : All (λ p. place_key keys rs no_record p ≡ name_key (placed rs no_record p).owner) ps
+  pub key : All (λ p. sorted_key keys rs no_record p ≡ name_key (placed rs no_record p).owner) ps
   pub whole : map (placed rs no_record) ps ≡ sort_by record_order (distinct records_equal rs)

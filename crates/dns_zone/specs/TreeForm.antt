@@ -18,7 +18,7 @@ owners = map (λ (r : ResourceRecord). r.owner)
 
 -- The wire form of a row's name: a suffix of the owner of the first record at or below the name.
 unfoldable pub row_octets : List ResourceRecord → Row → Octets
-row_octets rs row = drop row.place (wire (get_or (owners rs) row.first []))
+row_octets rs row = drop row.offset (wire (get_or (owners rs) row.first []))
 
 unfoldable pub row_name : List ResourceRecord → Row → DomainName
 row_name rs row = labels_of (row_octets rs row)
@@ -42,7 +42,7 @@ pub record IsRow (rs : List ResourceRecord) (row : Row) (n : DomainName) : Type 
   pub lower : folded n ≡ n
   pub some : row.first < length rs
   pub more : row.first < row.end
-  pub place : row.place ≤ length (wire (get_or (owners rs) row.first []))
+  pub offset : row.offset ≤ length (wire (get_or (owners rs) row.first []))
   pub first_own : row.first ≤ row.own_end
   pub own_end : row.own_end ≤ row.end
   pub end_fits : row.end ≤ length rs
@@ -65,7 +65,7 @@ pub record AreChildren (rs : List ResourceRecord) (n : DomainName) (children : L
   pub few : length children ≤ length rs
 
 abbrev pub no_row : Row
-no_row = record { first = 0; own_end = 0; end = 0; place = 0; label_octets = 0; key = record { front = 0; next = 0 } }
+no_row = record { first = 0; own_end = 0; end = 0; offset = 0; label_octets = 0; key = record { front = 0; next = 0 } }
 
 abbrev pub row_at : List Row → ℕ → Row
 row_at rows k = get_or rows k no_row

@@ -96,5 +96,5 @@ pub(crate) fn octets_of<'a>(records: &'a [StoredRecord], row: &Row) -> &'a [u8]
     ensures name { labels_of result.now ≡ row_name records.now row.now }
 {
     let first = &records[row.first as usize];
-    first.owner().octets().split_at(row.place as usize).1
+    first.owner().octets().split_at(row.offset as usize).1
 }

@@ -20,7 +20,7 @@ use dns_name::NameRef;
 use dns_rdata::RType;
 use std::marker::Model;
 
-/// A zone under check, with its records in canonical order.
+/// What the checks of a zone use: its origin, its records in canonical order, and its names.
 #[derive(Drop)]
 pub(crate) struct CheckContext<'a> {
     pub(crate) origin: &'a NameRef<'a>,

@@ -6,7 +6,7 @@ ghost use Rattle.dns_spec.specs.Records.{records_equal, distinct, sort_by, recor
 ghost use Rattle.dns_spec.specs.ZonePrinted.{IsReadRecord};
 ghost use Rattle.dns_zone.specs.KeyForm.{name_key};
 ghost use Rattle.dns_zone.specs.OwnerKeysForm.{key_in, AreKeyed};
-ghost use Rattle.dns_zone.specs.SortKeyForm.{no_record, placed, AreApart, ArePlaces, AreSorted};
+ghost use Rattle.dns_zone.specs.SortKeyForm.{no_record, placed, AreApart, AreSortKeys, AreSorted};
 ghost use Rattle.dns_zone.specs.ZoneForm.{AreOrdered};
 
 use crate::order::owner_keys::{OwnerKeys, keys_of};
@@ -16,7 +16,7 @@ use dns_name::NameRef;
 use std::alloc::{AllocError, Global};
 
 /// Sorts records into canonical order without duplicates (RFC 4034 6.1, 6.3, RFC 2181 5), and
-/// returns them with the keys of their owners. The places of the records are sorted, and then the
+/// returns them with the keys of their owners. Their sort keys are sorted, and then the
 /// records are moved.
 pub(crate) fn sorted(
     alloc: Global,
@@ -34,22 +34,22 @@ pub(crate) fn sorted(
     ensures keyed { IfOk result (λ (kept, keyed). AreKeyed keyed.keys.items kept.items
         keyed.starts.items) }
 {
-    let (keys, mut places) = keys_of(alloc, &*origin, records.as_slice())?;
-    sort_places(keys.as_slice(), records.as_slice(), &mut places)?;
-    gather(alloc, &mut records, places.as_slice())?;
-    let starts = starts_of(alloc, places.as_slice())?;
+    let (keys, mut sort_keys) = keys_of(alloc, &*origin, records.as_slice())?;
+    sort_distinct(keys.as_slice(), records.as_slice(), &mut sort_keys)?;
+    gather(alloc, &mut records, sort_keys.as_slice())?;
+    let starts = starts_of(alloc, sort_keys.as_slice())?;
     Ok((records, OwnerKeys { keys, starts }))
 }
 
-// Sorts the places of records, and leaves out those of duplicates.
-fn sort_places(
+// Sorts the sort keys of records, and leaves out those of duplicates.
+fn sort_distinct(
     keys: &[u8],
     records: &[StoredRecord],
-    places: &mut Vec<SortKey>,
+    sort_keys: &mut Vec<SortKey>,
 ) -> Result<(), AllocError>
     requires { All IsReadRecord records.now }
-    ensures { OnOk result ((o : Octets) → ArePlaces o keys.now records.now places.old.items
-        → AreSorted keys.now records.now places.new.items) }
+    ensures { OnOk result ((o : Octets) → AreSortKeys o keys.now records.now sort_keys.old.items
+        → AreSorted keys.now records.now sort_keys.new.items) }
 {
     let Some(first) = records.first() else {
         return Ok(());
@@ -59,29 +59,29 @@ fn sort_places(
         records,
         first,
     };
-    order.sort(places)?;
-    places.dedup_by(|next, one| order.compare(next, one).is_eq());
+    order.sort(sort_keys)?;
+    sort_keys.dedup_by(|next, one| order.compare(next, one).is_eq());
     Ok(())
 }
 
-// Moves the record at each place to the index of the place in the list, and drops the others.
+// Moves the record of each sort key to the index of this key in the list, and drops the others.
 fn gather(
     alloc: Global,
     records: &mut Vec<StoredRecord>,
-    places: &[SortKey],
+    sort_keys: &[SortKey],
 ) -> Result<(), AllocError>
     requires few { length records.old.items ≤ most_records }
-    requires inside { All (λ (p : SortKey). p.at < length records.old.items) places.now }
-    requires apart { AreApart places.now }
-    requires fewer { length places.now ≤ length records.old.items }
+    requires inside { All (λ (p : SortKey). p.at < length records.old.items) sort_keys.now }
+    requires apart { AreApart sort_keys.now }
+    requires fewer { length sort_keys.now ≤ length records.old.items }
     ensures { OnOk result (records.new.items
-        ≡ map (placed records.old.items no_record) places.now) }
+        ≡ map (placed records.old.items no_record) sort_keys.now) }
 {
     // Where each record is now, and which record is now at each index.
     let mut index_of = counted(alloc, records.len())?;
     let mut record_at = counted(alloc, records.len())?;
-    'places: for to in 0..places.len() {
-        let record = places[to].at;
+    'sort_keys: for to in 0..sort_keys.len() {
+        let record = sort_keys[to].at;
         let from = index_of[record as usize];
         let other = record_at[to];
         records.swap(to, from as usize);
@@ -90,14 +90,17 @@ fn gather(
         record_at[to] = record;
         index_of[record as usize] = to as u32;
     }
-    records.truncate(places.len());
+    records.truncate(sort_keys.len());
     Ok(())
 }
 
-fn starts_of(alloc: Global, places: &[SortKey]) -> Result<Vec<u32>, AllocError>
-    ensures { IfOk result (λ starts. starts.items ≡ map (λ (p : SortKey). p.start) places.now) }
+fn starts_of(alloc: Global, sort_keys: &[SortKey]) -> Result<Vec<u32>, AllocError>
+    ensures { IfOk result (λ starts. starts.items ≡ map (λ (p : SortKey). p.start) sort_keys.now) }
 {
-    places.iter().map(|place| place.start).collect(alloc)
+    sort_keys
+        .iter()
+        .map(|sort_key| sort_key.start)
+        .collect(alloc)
 }
 
 // The numbers below `count`.

@@ -1,10 +1,10 @@
-//! The order of records as a list of places, which are sorted in their stead.
+//! Sort keys of records, which are sorted in their stead.
 ghost use Rattle.std.specs.Prelude.{◌≡◌, ℕ, ◌<◌, ◌≤◌, length, get_or, OnOk};
 ghost use Rattle.std.specs.Cmp.Lexicographic.{slice_cmp};
 ghost use Rattle.std.specs.List.Sorted.{IsPermutation, IsSorted};
 ghost use Rattle.std.specs.Ordering.{nat_cmp, ordering_then};
 ghost use Rattle.dns_zone.specs.LabelKey.{IsEight};
-ghost use Rattle.dns_zone.specs.SortKeyForm.{own_order, placed, place_key, place_order, AreFronts};
+ghost use Rattle.dns_zone.specs.SortKeyForm.{own_order, placed, sorted_key, sort_key_order, AreFronts};
 
 use crate::order::key::key_at;
 use crate::order::own_order;
@@ -12,7 +12,8 @@ use crate::store::stored::StoredRecord;
 use std::alloc::AllocError;
 use std::cmp::Ordering;
 
-/// A record of a list.
+/// The sort key of a record: the beginning of its owner's key, its index, and where its owner's key
+/// begins.
 #[derive(Clone, Copy)]
 pub(crate) struct SortKey {
     /// The first sixteen octets of the owner's key after the origin's key, as two numbers, which
@@ -27,7 +28,7 @@ pub(crate) struct SortKey {
 }
 
 impl SortKey {
-    /// A place of a record whose owner's key is `key`.
+    /// The sort key of the record at index `at`, whose owner's key is `key` and begins at `start`.
     pub(crate) fn of(origin: &[u8], key: &[u8], at: u32, start: u32) -> SortKey
         ensures fronts { AreFronts origin.now key.now result.front result.next }
         ensures at { result.at ≡ at }
@@ -70,10 +71,10 @@ fn padded(octets: &[u8]) -> [u8; 8]
     eight
 }
 
-// The most places past which a place is moved back at once.
+// The most sort keys past which one is moved back.
 const NEAR: usize = 8;
 
-/// The canonical order of the records at places.
+/// The canonical order of records, by their sort keys.
 #[derive(Drop)]
 pub(crate) struct Order<'a> {
     /// All keys.
@@ -84,40 +85,40 @@ pub(crate) struct Order<'a> {
 }
 
 impl<'a> Order<'a> {
-    /// Sorts places. Most files list their names in order, with few exceptions. So the places that
+    /// Sorts sort keys. Most files list their names in order, with few exceptions. So those that
     /// are out of order are moved to the end. If they are at most a quarter, they are merged with
     /// the others.
-    pub(crate) fn sort(&self, places: &mut Vec<SortKey>) -> Result<(), AllocError>
-        ensures { OnOk result (IsPermutation places.old.items places.new.items × IsSorted
-            (place_order self.now.keys.now self.now.records.now self.now.first.now)
-            places.new.items) }
+    pub(crate) fn sort(&self, sort_keys: &mut Vec<SortKey>) -> Result<(), AllocError>
+        ensures { OnOk result (IsPermutation sort_keys.old.items sort_keys.new.items × IsSorted
+            (sort_key_order self.now.keys.now self.now.records.now self.now.first.now)
+            sort_keys.new.items) }
     {
-        let kept = self.keep_rising(places);
-        if places.len() - kept > places.len() / 4 {
-            places.sort_unstable_by(|one, other| self.compare(one, other));
+        let kept = self.keep_rising(sort_keys);
+        if sort_keys.len() - kept > sort_keys.len() / 4 {
+            sort_keys.sort_unstable_by(|one, other| self.compare(one, other));
             return Ok(());
         }
-        places.sort_by(|one, other| self.compare(one, other))?;
+        sort_keys.sort_by(|one, other| self.compare(one, other))?;
         Ok(())
     }
 
-    // Moves places that are in order to the beginning of the list, and returns how many they are.
-    // A place that sorts before the last of them is moved back if it is near. Otherwise, if it sorts
+    // Moves sort keys that are in order to the beginning of the list, and returns how many they
+    // are. One that sorts before the last of them is moved back if it is near. Otherwise, if it sorts
     // after the second last, it replaces the last.
-    fn keep_rising(&self, places: &mut Vec<SortKey>) -> usize
-        ensures moved { IsPermutation places.old.items places.new.items }
-        ensures count { result ≤ length places.new.items }
+    fn keep_rising(&self, sort_keys: &mut Vec<SortKey>) -> usize
+        ensures moved { IsPermutation sort_keys.old.items sort_keys.new.items }
+        ensures count { result ≤ length sort_keys.new.items }
     {
         let mut kept = 0;
-        'places: for at in 0..places.len() {
-            if kept == 0 || self.compare(&places[at], &places[kept - 1]).is_ge() {
-                places.swap(kept, at);
-            } else if self.is_near(places.as_slice(), kept, at) {
-                places.swap(kept, at);
-                self.move_back(places, kept);
-            } else if kept > 1 && self.compare(&places[at], &places[kept - 2]).is_ge() {
+        'sort_keys: for at in 0..sort_keys.len() {
+            if kept == 0 || self.compare(&sort_keys[at], &sort_keys[kept - 1]).is_ge() {
+                sort_keys.swap(kept, at);
+            } else if self.is_near(sort_keys.as_slice(), kept, at) {
+                sort_keys.swap(kept, at);
+                self.move_back(sort_keys, kept);
+            } else if kept > 1 && self.compare(&sort_keys[at], &sort_keys[kept - 2]).is_ge() {
                 kept -= 1;
-                places.swap(kept, at);
+                sort_keys.swap(kept, at);
             } else {
                 continue;
             }
@@ -126,36 +127,36 @@ impl<'a> Order<'a> {
         kept
     }
 
-    // Whether a place is of the same owner as the last of the first `kept` places, and sorts after
+    // Whether a record is of the same owner as the last of the first `kept` ones, and sorts after
     // all but the last eight of them. Many files have the records of an owner in no order.
-    fn is_near(&self, places: &[SortKey], kept: usize, at: usize) -> bool
+    fn is_near(&self, sort_keys: &[SortKey], kept: usize, at: usize) -> bool
         requires some { 0 < kept }
-        requires kept { kept ≤ length places.now }
-        requires at { at < length places.now }
+        requires kept { kept ≤ length sort_keys.now }
+        requires at { at < length sort_keys.now }
     {
-        let place = &places[at];
-        place.start == places[kept - 1].start
-            && (kept <= NEAR || self.compare(place, &places[kept - 1 - NEAR]).is_ge())
+        let sort_key = &sort_keys[at];
+        sort_key.start == sort_keys[kept - 1].start
+            && (kept <= NEAR || self.compare(sort_key, &sort_keys[kept - 1 - NEAR]).is_ge())
     }
 
-    // Moves the place at index `from` back, past those before it that it sorts before.
-    fn move_back(&self, places: &mut Vec<SortKey>, from: usize)
-        requires { from < length places.old.items }
-        ensures moved { IsPermutation places.old.items places.new.items }
-        ensures count { length places.new.items ≡ length places.old.items }
+    // Moves the sort key at index `from` back, past those before it that it sorts before.
+    fn move_back(&self, sort_keys: &mut Vec<SortKey>, from: usize)
+        requires { from < length sort_keys.old.items }
+        ensures moved { IsPermutation sort_keys.old.items sort_keys.new.items }
+        ensures count { length sort_keys.new.items ≡ length sort_keys.old.items }
     {
         'back: for to in (1..from + 1).rev() {
-            if self.compare(&places[to], &places[to - 1]).is_ge() {
+            if self.compare(&sort_keys[to], &sort_keys[to - 1]).is_ge() {
                 break;
             }
-            places.swap(to, to - 1);
+            sort_keys.swap(to, to - 1);
         }
     }
 
-    /// Compares the records at two places. The numbers decide for most owners.
+    /// Compares two records by their sort keys. The numbers decide for most owners.
     #[inline(always)]
     pub(crate) fn compare(&self, one: &SortKey, other: &SortKey) -> Ordering
-        ensures { result ≡ place_order self.now.keys.now self.now.records.now self.now.first.now
+        ensures { result ≡ sort_key_order self.now.keys.now self.now.records.now self.now.first.now
             one.now other.now }
     {
         if one.front != other.front {
@@ -167,12 +168,12 @@ impl<'a> Order<'a> {
         self.compare_tied(one, other)
     }
 
-    // Compares the records at two places with the same numbers. Out of line, for the sake of `sort`.
+    // Compares two records with the same numbers. Out of line, for the sake of `sort`.
     #[inline(never)]
     fn compare_tied(&self, one: &SortKey, other: &SortKey) -> Ordering
         ensures { result ≡ ordering_then (slice_cmp nat_cmp
-            (place_key self.now.keys.now self.now.records.now self.now.first.now one.now)
-            (place_key self.now.keys.now self.now.records.now self.now.first.now other.now))
+            (sorted_key self.now.keys.now self.now.records.now self.now.first.now one.now)
+            (sorted_key self.now.keys.now self.now.records.now self.now.first.now other.now))
             (own_order (placed self.now.records.now self.now.first.now one.now)
             (placed self.now.records.now self.now.first.now other.now)) }
     {
@@ -186,8 +187,8 @@ impl<'a> Order<'a> {
     // time on a file with many records of deep names.
     fn owner_order(&self, one: &SortKey, other: &SortKey) -> Ordering
         ensures { result ≡ slice_cmp nat_cmp
-            (place_key self.now.keys.now self.now.records.now self.now.first.now one.now)
-            (place_key self.now.keys.now self.now.records.now self.now.first.now other.now) }
+            (sorted_key self.now.keys.now self.now.records.now self.now.first.now one.now)
+            (sorted_key self.now.keys.now self.now.records.now self.now.first.now other.now) }
     {
         let (left, right) = (self.record(one), self.record(other));
         if one.start == other.start && left.owner().octets().len() == right.owner().octets().len() {
@@ -196,9 +197,9 @@ impl<'a> Order<'a> {
         key_at(self.keys, one.start, left).cmp(key_at(self.keys, other.start, right))
     }
 
-    fn record(&self, place: &SortKey) -> &'a StoredRecord
-        ensures { result.now ≡ placed self.now.records.now self.now.first.now place.now }
+    fn record(&self, sort_key: &SortKey) -> &'a StoredRecord
+        ensures { result.now ≡ placed self.now.records.now self.now.first.now sort_key.now }
     {
-        self.records.get(place.at as usize).unwrap_or(self.first)
+        self.records.get(sort_key.at as usize).unwrap_or(self.first)
     }
 }

@@ -17,7 +17,7 @@ use dns_name::NameRef;
 use std::cmp::Ordering;
 use std::marker::Model;
 
-/// The children of a node, in the order of their labels. The labels are not borrowed: only `order`
+/// The children of a node, in the order of their labels. The labels are not handed out: only `order`
 /// reads them, and it counts each comparison.
 #[derive(Drop)]
 pub(crate) struct Children<'z> {

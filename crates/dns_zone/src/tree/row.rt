@@ -25,7 +25,7 @@ pub(crate) struct Row {
     pub(crate) end: u32,
     /// The offset at which the name begins in the wire form of the first record's owner, which ends
     /// with the name.
-    pub(crate) place: u8,
+    pub(crate) offset: u8,
     /// The length of the name's first label.
     pub(crate) label_octets: u8,
     /// The key of the name's first label.
@@ -56,7 +56,7 @@ impl Row {
             first: first as u32,
             own_end: (first + own) as u32,
             end: (first + (known + count_under(after, name))) as u32,
-            place: (records[first].owner().octets().len() - name.octets().len()) as u8,
+            offset: (records[first].owner().octets().len() - name.octets().len()) as u8,
             label_octets: label.len() as u8,
             key: LabelKey::of(label),
         }

@@ -1,4 +1,4 @@
-use Rattle.dns_answer.proofs.Common.{rules, false, ◌≡◌, ℕ, List, [], ◌<◌, get_or, All, None, Some, length, ◌≤◌, refl, sym, ap, ◌∙◌, subst, subst₂, arith, get_or_default_zero, layout, Header, decide_question, IsPartial, quick_number, IsHeaded, IsLaidOut, Costs, State, Holds, Responds, Walk, empty_draft}
+use Rattle.dns_answer.proofs.Common.{rules, false, ◌≡◌, ℕ, List, [], ◌<◌, get_or, All, None, Some, length, ◌≤◌, refl, sym, ap, ◌∙◌, subst, subst₂, arith, get_or_default_zero, layout, Header, decide_question, IsPartial, quick_number, IsHeaded, IsLaidOut, Costs, State, Holds, Responds, Walk, empty_reply}
 use Rattle.dns_wire.specs.PartialMessage as wire
 use Rattle.dns_wire.proofs.PartialLemmas.{nothing_begins}
 use Rattle.dns_answer.proofs.PutReplies.{refusal-put}
@@ -29,7 +29,7 @@ put_answer-head-requires g c =
     let judged = c.in-Ok.ensures c.args.steps.now.zone (sym c.origin-origin.ensures.value) in
     let put = c.put_question.ensures in
     let begun : Holds (record { message = c.put_question.new.self; full = false })
-    (empty_draft c.in-Query.question g.row.SIZE) = record {
+    (empty_reply c.in-Query.question g.row.SIZE) = record {
       written = put.partial quick_number;
       limit = put.limit ∙ limit_of_empty c.clear.ensures c.builder.invariant.2;
       full = refl;

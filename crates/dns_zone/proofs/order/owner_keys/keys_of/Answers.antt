@@ -1,4 +1,4 @@
-use Rattle.dns_zone.proofs.Common.{rules, ◌≡◌, ◌≤◌, ◌<◌, length, ℕ, ◌+◌, List, [], ◌∷◌, ◌++◌, get_or, arith, refl, sym, ap, subst, ◌∙◌, inl, inr, ◌⊎◌, length-append, cases_lt, get_or_append_left, get_or_default, Octets, DomainName, ResourceRecord, IsReadRecord, All, All-nil, All-push, All-weaker, take_all, get_or-append_seam, All-more, names_equal-decides, labels_of_spelled, name_key, key_in, AreFronts, IsPlace, SortKey, placed}
+use Rattle.dns_zone.proofs.Common.{rules, ◌≡◌, ◌≤◌, ◌<◌, length, ℕ, ◌+◌, List, [], ◌∷◌, ◌++◌, get_or, arith, refl, sym, ap, subst, ◌∙◌, inl, inr, ◌⊎◌, length-append, cases_lt, get_or_append_left, get_or_default, Octets, DomainName, ResourceRecord, IsReadRecord, All, All-nil, All-push, All-weaker, take_all, get_or-append_seam, All-more, names_equal-decides, labels_of_spelled, name_key, key_in, AreFronts, IsSortKey, SortKey, placed}
 use Rattle.dns_zone.proofs.OwnerKeys.{key_stays, key_added}
 use Rattle.dns_zone.proofs.order.owner_keys.keys_of.Goals as goal
 use Rattle.dns_zone.proofs.order.owner_keys.keys_of.Goals.{then-ne+in_ok-extend_from_slice-2, else-ne}
@@ -21,17 +21,17 @@ records-init c =
     record {
       key = c.of-key.ensures ∙ ap name_key (sym last);
       last = subst (λ s. key_in c.extend_from_slice.new.self.items s c.new-last.result
-          ≡ name_key c.new-last.result) (sym c.of-place.ensures.start)
+          ≡ name_key c.new-last.result) (sym c.of-sort_key.ensures.start)
           (subst (λ n. key_in c.extend_from_slice.new.self.items 0 n ≡ name_key n) (sym last)
           first);
       fronts = fronts_are _ _ _ _ _ _ (c.octets-3.ensures.value ∙ c.of-first.ensures)
           (c.octets-4.ensures.value ∙ c.of-key.ensures ∙ ap name_key (sym last))
-          c.of-place.ensures.fronts;
+          c.of-sort_key.ensures.fronts;
       origin = first;
-      count = ap length c.in_ok-places.ensures.items;
-      at = λ i d l. absurd (omega (arith, l, ap length c.in_ok-places.ensures.items));
-      each = subst (All (IsPlace (name_key c.args.origin.now) c.extend_from_slice.new.self.items
-          c.args.records.now)) (sym c.in_ok-places.ensures.items) (All-nil _);
+      count = ap length c.in_ok-sort_keys.ensures.items;
+      at = λ i d l. absurd (omega (arith, l, ap length c.in_ok-sort_keys.ensures.items));
+      each = subst (All (IsSortKey (name_key c.args.origin.now) c.extend_from_slice.new.self.items
+          c.args.records.now)) (sym c.in_ok-sort_keys.ensures.items) (All-nil _);
       few = grind arith;
       read = All-nil IsReadRecord;
     }
@@ -40,19 +40,19 @@ abbrev IsAt : Octets → ℕ → DomainName → Type 0
 IsAt keys start n = key_in keys start n ≡ name_key n
 
 -- the list of keys after the key of n was added to it, or found to be its last key
-record Added (origin old new key : Octets) (place : SortKey) (last n : DomainName) : Type 0 where
+record Added (origin old new key : Octets) (sort_key : SortKey) (last n : DomainName) : Type 0 where
   pub key_is : key ≡ name_key n
   pub stays : (m : DomainName) (s : ℕ) → IsAt old s m → IsAt new s m
-  pub at : IsAt new place.start n
-  pub fronts : AreFronts origin (name_key n) place.front place.next
+  pub at : IsAt new sort_key.start n
+  pub fronts : AreFronts origin (name_key n) sort_key.front sort_key.next
   pub fits : length new ≤ length old + 255
   pub is : last ≡ n
 
-key_put : (origin old new key : Octets) (place : SortKey) (last n : DomainName) → key ≡ name_key n
-    → new ≡ old ++ name_key n → place.start ≡ length old
-    → AreFronts origin (name_key n) place.front place.next → last ≡ n
-    → length (name_key n) ≤ 255 → Added origin old new key place last n
-key_put origin old new key place last n k e f fronts g bound = rw (e, g) (record {
+key_put : (origin old new key : Octets) (sort_key : SortKey) (last n : DomainName) → key ≡ name_key n
+    → new ≡ old ++ name_key n → sort_key.start ≡ length old
+    → AreFronts origin (name_key n) sort_key.front sort_key.next → last ≡ n
+    → length (name_key n) ≤ 255 → Added origin old new key sort_key last n
+key_put origin old new key sort_key last n k e f fronts g bound = rw (e, g) (record {
   key_is = k;
   stays = key_stays old (name_key n);
   at = subst (λ s. IsAt (old ++ name_key n) s n) (sym f) (key_added old [] n);
@@ -61,10 +61,10 @@ key_put origin old new key place last n k e f fronts g bound = rw (e, g) (record
   is = refl;
 })
 
-key_kept : (origin old new key : Octets) (place : SortKey) (last m n : DomainName)
-    → key ≡ name_key m → new ≡ old → last ≡ m → n ≡ m → IsAt old place.start m
-    → AreFronts origin (name_key m) place.front place.next → Added origin old new key place last n
-key_kept origin old new key place last m n k e g h at fronts = rw (e, g, h) (record {
+key_kept : (origin old new key : Octets) (sort_key : SortKey) (last m n : DomainName)
+    → key ≡ name_key m → new ≡ old → last ≡ m → n ≡ m → IsAt old sort_key.start m
+    → AreFronts origin (name_key m) sort_key.front sort_key.next → Added origin old new key sort_key last n
+key_kept origin old new key sort_key last m n k e g h at fronts = rw (e, g, h) (record {
   key_is = k;
   stays = λ _ _ a. a;
   at = at;
@@ -94,7 +94,7 @@ records-preserved c =
     let new = c.if-ne.keys.items in
     let key = c.if-ne.key in
     let last = c.if-ne.last in
-    let place = c.if-ne.place in
+    let sort_key = c.if-ne.sort_key in
     let k = c.records.each-index in
     let rs = c.args.records.now in
     let inv = c.records.invariant in
@@ -103,54 +103,54 @@ records-preserved c =
     λ r. ap (λ (s : ResourceRecord). s.owner)
     (get_or_default rs k r c.each-item.result c.records-test.true ∙ sym c.each-item.is)
     ∙ sym c.owner-owner.ensures.value in
-    let added : Added o old new key place last n = elim c.if-ne.branch [
+    let added : Added o old new key sort_key last n = elim c.if-ne.branch [
       | then-ne+in_ok-extend_from_slice-2 w ↦
           let is = w.key-is ∙ w.move_to.ensures in
           let more : w.octets-then-ne-3.result.now ≡ name_key n = search (rules, is) in
           let bound = w.octets-then-ne-3.ensures.bound in
           let fronts = fronts_are _ _ o (name_key n) _ _ (search rules) (search (rules, is))
-          w.of-place-then-ne.ensures.fronts in
-          key_put o old new key place last n is (search (rules, more)) (search rules)
-          (subst (λ (p : SortKey). AreFronts o (name_key n) p.front p.next) (sym w.place-is) fronts)
+          w.of-sort_key-then-ne.ensures.fronts in
+          key_put o old new key sort_key last n is (search (rules, more)) (search rules)
+          (subst (λ (p : SortKey). AreFronts o (name_key n) p.front p.next) (sym w.sort_key-is) fronts)
           w.last-is (omega (arith, bound, ap length more))
       | else-ne w ↦
           let same : n ≡ c.records.last =
           (names_equal-decides n c.records.last).0 (search rules) in
-          key_kept o old new key place last _ n (w.key-is ∙ inv.key) (search rules) w.last-is same
-          (subst (λ (p : SortKey). IsAt old p.start c.records.last) (sym w.place-is) inv.last)
+          key_kept o old new key sort_key last _ n (w.key-is ∙ inv.key) (search rules) w.last-is same
+          (subst (λ (p : SortKey). IsAt old p.start c.records.last) (sym w.sort_key-is) inv.last)
           (subst (λ (p : SortKey). AreFronts o (name_key c.records.last) p.front p.next)
-          (sym w.place-is) inv.fronts)
+          (sym w.sort_key-is) inv.fronts)
     ] in
     let fits = added.fits in
-    let ps = c.records.places.items in
+    let ps = c.records.sort_keys.items in
     let pushed : SortKey = record {
-      front = place.front;
-      next = place.next;
+      front = sort_key.front;
+      next = sort_key.next;
       at = c.len-in-records.result;
-      start = place.start;
+      start = sort_key.start;
     } in
     let items : c.push.new.self.items ≡ ps ++ pushed ∷ [] = search rules in
     let at : pushed.at ≡ length ps = search rules in
     let index : pushed.at ≡ k = at ∙ inv.count in
     let owner : (r : ResourceRecord) → (placed rs r pushed).owner ≡ n =
     λ r. ap (λ j. (get_or rs j r).owner) index ∙ here r in
-    let is_place : IsPlace o new rs pushed = record {
+    let is_place : IsSortKey o new rs pushed = record {
       inside = subst (λ j. j < length rs) (sym index) c.records-test.true;
-      key = λ r. subst (IsAt new place.start) (sym (owner r)) added.at;
-      fronts = λ r. subst (λ m. AreFronts o (name_key m) place.front place.next) (sym (owner r))
+      key = λ r. subst (IsAt new sort_key.start) (sym (owner r)) added.at;
+      fronts = λ r. subst (λ m. AreFronts o (name_key m) sort_key.front sort_key.next) (sym (owner r))
           added.fronts;
     } in
     record {
       key = added.key_is ∙ ap name_key (sym added.is);
-      last = subst (IsAt new place.start) (sym added.is) added.at;
-      fronts = subst (λ m. AreFronts o (name_key m) place.front place.next) (sym added.is)
+      last = subst (IsAt new sort_key.start) (sym added.is) added.at;
+      fronts = subst (λ m. AreFronts o (name_key m) sort_key.front sort_key.next) (sym added.is)
           added.fronts;
       origin = added.stays c.args.origin.now 0 inv.origin;
       count = ap length items ∙ length-append ps _ ∙ ap (λ j. j + 1) inv.count;
       at = subst (λ qs. (i : ℕ) (d : SortKey) → i < length qs → (get_or qs i d).at ≡ i) (sym items)
           (at_pushed ps pushed at inv.at);
-      each = subst (All (IsPlace o new rs)) (sym items)
-          (All-push (IsPlace o new rs) ps pushed (All-weaker (IsPlace o old rs) (IsPlace o new rs)
+      each = subst (All (IsSortKey o new rs)) (sym items)
+          (All-push (IsSortKey o new rs) ps pushed (All-weaker (IsSortKey o old rs) (IsSortKey o new rs)
           (λ p h. record {
             inside = h.inside;
             key = λ r. added.stays (placed rs r p).owner p.start (h.key r);

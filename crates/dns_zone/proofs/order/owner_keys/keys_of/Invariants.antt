@@ -1,16 +1,16 @@
-use Rattle.dns_zone.proofs.Common.{◌≡◌, ℕ, ◌+◌, ◌*◌, ◌<◌, ◌≤◌, All, length, take, get_or, IsReadRecord, name_key, key_in, AreFronts, IsPlace, SortKey}
+use Rattle.dns_zone.proofs.Common.{◌≡◌, ℕ, ◌+◌, ◌*◌, ◌<◌, ◌≤◌, All, length, take, get_or, IsReadRecord, name_key, key_in, AreFronts, IsSortKey, SortKey}
 use Rattle.dns_zone.proofs.order.owner_keys.keys_of.Given as goal
 
 -- the keys so far, and the last of them, with its numbers
 abbrev pub invariant-records : goal.invariant-records
 invariant-records l = record {
   key : l.key ≡ name_key l.last;
-  last : key_in l.keys.items l.place.start l.last ≡ name_key l.last;
-  fronts : AreFronts (name_key l.origin) (name_key l.last) l.place.front l.place.next;
+  last : key_in l.keys.items l.sort_key.start l.last ≡ name_key l.last;
+  fronts : AreFronts (name_key l.origin) (name_key l.last) l.sort_key.front l.sort_key.next;
   origin : key_in l.keys.items 0 l.origin ≡ name_key l.origin;
-  count : length l.places.items ≡ l.each-index;
-  at : (i : ℕ) (d : SortKey) → i < length l.places.items → (get_or l.places.items i d).at ≡ i;
-  each : All (IsPlace (name_key l.origin) l.keys.items l.records) l.places.items;
+  count : length l.sort_keys.items ≡ l.each-index;
+  at : (i : ℕ) (d : SortKey) → i < length l.sort_keys.items → (get_or l.sort_keys.items i d).at ≡ i;
+  each : All (IsSortKey (name_key l.origin) l.keys.items l.records) l.sort_keys.items;
   few : length l.keys.items ≤ 255 * (l.each-index + 1);
   read : All IsReadRecord (take l.each-index l.records);
 }

@@ -1,35 +1,35 @@
 use Rattle.dns_zone.proofs.Common.{arith, ◌≡◌, ◌∙◌, length, get_or, get_or_default, subst}
-use Rattle.dns_zone.proofs.Gathered.{IsGathered, one_step, all_gathered, no_place}
+use Rattle.dns_zone.proofs.Gathered.{IsGathered, one_step, all_gathered, no_sort_key}
 use Rattle.dns_zone.proofs.order.sort.gather.Goals as goal
 
-pub places-preserved : goal.places-preserved
-places-preserved c =
-    let ps = c.args.places.now in
-    let to = c.places.to in
-    let inside = c.places-test.true in
-    let below = c.requires.inside to no_place inside in
+pub sort_keys-preserved : goal.sort_keys-preserved
+sort_keys-preserved c =
+    let ps = c.args.sort_keys.now in
+    let to = c.sort_keys.to in
+    let inside = c.sort_keys-test.true in
+    let below = c.requires.inside to no_sort_key inside in
     let fewer = c.requires.fewer in
     let len = c.swap.ensures.len in
     let new = c.swap.new.self.ok.0 in
-    let old = c.places.records.ok.0 in
-    one_step c.args.records.now.items c.places.records.items c.swap.new.self.items
-    c.places.index_of.items c.places.record_at.items ps to c.places.invariant c.requires.apart
-    inside fewer (get_or ps to no_place)
-    (get_or_default ps to no_place (get_or ps to no_place) inside)
+    let old = c.sort_keys.records.ok.0 in
+    one_step c.args.records.now.items c.sort_keys.records.items c.swap.new.self.items
+    c.sort_keys.index_of.items c.sort_keys.record_at.items ps to c.sort_keys.invariant c.requires.apart
+    inside fewer (get_or ps to no_sort_key)
+    (get_or_default ps to no_sort_key (get_or ps to no_sort_key) inside)
     below c.index-from.result.now c.index-other.result.now
     (c.index-from.ensures
-    ∙ get_or_default c.places.index_of.items (get_or ps to no_place).at c.index-from.result.now 0
-    (omega (arith, below, c.places.invariant.indexes))) (c.index-other.ensures
-    ∙ get_or_default c.places.record_at.items to c.index-other.result.now 0
-    (omega (arith, inside, fewer, c.places.invariant.records))) c.swap.ensures.by_index
+    ∙ get_or_default c.sort_keys.index_of.items (get_or ps to no_sort_key).at c.index-from.result.now 0
+    (omega (arith, below, c.sort_keys.invariant.indexes))) (c.index-other.ensures
+    ∙ get_or_default c.sort_keys.record_at.items to c.index-other.result.now 0
+    (omega (arith, inside, fewer, c.sort_keys.invariant.records))) c.swap.ensures.by_index
     (omega (arith, len, new, old))
 
 pub returns : goal.returns
 returns c =
-    let test = c.places-test.false in
-    let end = c.places.auto.to-end in
-    let filled : c.places.to ≡ length c.args.places.now = omega (arith, test, end) in
+    let test = c.sort_keys-test.false in
+    let end = c.sort_keys.auto.to-end in
+    let filled : c.sort_keys.to ≡ length c.args.sort_keys.now = omega (arith, test, end) in
     c.truncate.ensures.items
-    ∙ all_gathered _ _ _ _ _ (subst (IsGathered c.args.records.now.items c.places.records.items
-    c.places.index_of.items c.places.record_at.items c.args.places.now) filled c.places.invariant)
+    ∙ all_gathered _ _ _ _ _ (subst (IsGathered c.args.records.now.items c.sort_keys.records.items
+    c.sort_keys.index_of.items c.sort_keys.record_at.items c.args.sort_keys.now) filled c.sort_keys.invariant)
     c.requires.fewer

@@ -1,10 +1,10 @@
-use Rattle.dns_zone.proofs.Common.{◌≡◌, ◌<◌, ◌≤◌, ◌∙◌, ℕ, List, All, length, map, sym, ap, ap₂, subst, arith, length-map, get_or-map, Octets, ResourceRecord, IsReadRecord, record_order, sort_risen, rises_canonical, all_canonical, AreApart, AreOrdered, AreKeyed, ArePlaces, AreSorted, key_in, name_key, no_record, placed, SortKey}
-use Rattle.dns_zone.proofs.Gathered.{no_place}
+use Rattle.dns_zone.proofs.Common.{◌≡◌, ◌<◌, ◌≤◌, ◌∙◌, ℕ, List, All, length, map, sym, ap, ap₂, subst, arith, length-map, get_or-map, Octets, ResourceRecord, IsReadRecord, record_order, sort_risen, rises_canonical, all_canonical, AreApart, AreOrdered, AreKeyed, AreSortKeys, AreSorted, key_in, name_key, no_record, placed, SortKey}
+use Rattle.dns_zone.proofs.Gathered.{no_sort_key}
 use Rattle.dns_zone.proofs.order.sort.sorted.Goals as goal
-use Rattle.dns_zone.proofs.order.sort.sorted.Goals.{In_ok-sort_places, In_ok-gather}
+use Rattle.dns_zone.proofs.order.sort.sorted.Goals.{In_ok-sort_distinct, In_ok-gather}
 use Rattle.dns_zone.proofs.AtName.{canonical}
 
--- records at sorted places, with the starts of their keys
+-- records at sorted sort keys, with the starts of their keys
 keyed : (keys : Octets) (rs ss : List ResourceRecord) (ps : List SortKey) (starts : List ℕ)
     → AreSorted keys rs ps → ss ≡ map (placed rs no_record) ps
     → starts ≡ map (λ (p : SortKey). p.start) ps → AreKeyed keys ss starts
@@ -12,18 +12,18 @@ keyed keys rs ss ps starts h e f = rw (e, f) (record {
   count = length-map ps (λ (p : SortKey). p.start) ∙ sym (length-map ps (placed rs no_record));
   each = λ i r s l.
       let inside : i < length ps = omega (arith, l, length-map ps (placed rs no_record)) in
-      let record_is = get_or-map (placed rs no_record) ps i no_place r inside in
-      let start_is = get_or-map (λ (p : SortKey). p.start) ps i no_place s inside in
+      let record_is = get_or-map (placed rs no_record) ps i no_sort_key r inside in
+      let start_is = get_or-map (λ (p : SortKey). p.start) ps i no_sort_key s inside in
       ap₂ (λ k (t : ResourceRecord). key_in keys k t.owner) start_is record_is
-      ∙ h.key i no_place inside ∙ ap (λ (t : ResourceRecord). name_key t.owner) (sym record_is);
+      ∙ h.key i no_sort_key inside ∙ ap (λ (t : ResourceRecord). name_key t.owner) (sym record_is);
 })
 
-module _ (c : In_ok-sort_places) where
+module _ (c : In_ok-sort_distinct) where
   abbrev rs : List ResourceRecord
   rs = c.args.records.items
 
   abbrev ps : List SortKey
-  ps = c.sort_places.new.places.items
+  ps = c.sort_distinct.new.sort_keys.items
 
   read : All IsReadRecord rs
   read = subst (All IsReadRecord) c.as_slice.ensures.value c.in_ok-keys.ensures.read
@@ -31,35 +31,35 @@ module _ (c : In_ok-sort_places) where
   are_sorted : AreSorted c.in_ok-keys.keys.items rs ps
   are_sorted =
       let o = name_key c.args.origin.now in
-      let qs = c.in_ok-keys.places.items in
+      let qs = c.in_ok-keys.sort_keys.items in
       let keys = c.as_slice-2.ensures.value in
       let records = c.as_slice-3.ensures.value in
       subst (λ ks. AreSorted ks rs ps) keys
       (subst (λ ss. AreSorted c.as_slice-2.result.now ss ps) records
-      (c.in_ok-sort_places.ensures o
-      (subst (λ ks. ArePlaces o ks c.as_slice-3.result.now qs) (sym keys)
-      (subst (λ ss. ArePlaces o c.in_ok-keys.keys.items ss qs)
-      (c.as_slice.ensures.value ∙ sym records) c.in_ok-keys.ensures.places))))
+      (c.in_ok-sort_distinct.ensures o
+      (subst (λ ks. AreSortKeys o ks c.as_slice-3.result.now qs) (sym keys)
+      (subst (λ ss. AreSortKeys o c.in_ok-keys.keys.items ss qs)
+      (c.as_slice.ensures.value ∙ sym records) c.in_ok-keys.ensures.sort_keys))))
 
 pub gather-requires-clause-inside : goal.gather-requires-clause-inside
 gather-requires-clause-inside c =
-    let at = (goal.at.gather-requires-clause-inside c).In_ok-sort_places in
+    let at = (goal.at.gather-requires-clause-inside c).In_ok-sort_distinct in
     subst (All (λ (p : SortKey). p.at < length c.args.records.items)) (sym c.as_slice-4.ensures.value)
     (are_sorted at).inside
 
 pub gather-requires-clause-apart : goal.gather-requires-clause-apart
 gather-requires-clause-apart c =
-    let at = (goal.at.gather-requires-clause-apart c).In_ok-sort_places in
+    let at = (goal.at.gather-requires-clause-apart c).In_ok-sort_distinct in
     subst AreApart (sym c.as_slice-4.ensures.value) (are_sorted at).apart
 
 pub gather-requires-clause-fewer : goal.gather-requires-clause-fewer
 gather-requires-clause-fewer c =
-    let at = (goal.at.gather-requires-clause-fewer c).In_ok-sort_places in
+    let at = (goal.at.gather-requires-clause-fewer c).In_ok-sort_distinct in
     subst (λ (qs : List SortKey). length qs ≤ length c.args.records.items)
     (sym c.as_slice-4.ensures.value) (are_sorted at).fewer
 
 gathered : (c : In_ok-gather) → c.gather.new.records.items
-    ≡ map (placed c.args.records.items no_record) c.sort_places.new.places.items
+    ≡ map (placed c.args.records.items no_record) c.sort_distinct.new.sort_keys.items
 gathered c =
     c.in_ok-gather.ensures
     ∙ ap (map (placed c.args.records.items no_record)) c.as_slice-4.ensures.value
@@ -67,12 +67,12 @@ gathered c =
 pub returns-clause-records : goal.returns-clause-records
 returns-clause-records c =
     let at = (goal.at.returns-clause-records c) in
-    gathered at.In_ok-gather ∙ (are_sorted at.In_ok-sort_places).whole
+    gathered at.In_ok-gather ∙ (are_sorted at.In_ok-sort_distinct).whole
 
 pub returns-clause-in_order : goal.returns-clause-in_order
 returns-clause-in_order c =
     let at = (goal.at.returns-clause-in_order c) in
-    subst AreOrdered (sym (gathered at.In_ok-gather ∙ (are_sorted at.In_ok-sort_places).whole))
+    subst AreOrdered (sym (gathered at.In_ok-gather ∙ (are_sorted at.In_ok-sort_distinct).whole))
     (sort_risen record_order (canonical c.args.records.items)
     (rises_canonical c.args.records.items))
 
@@ -80,25 +80,25 @@ pub returns-clause-count : goal.returns-clause-count
 returns-clause-count c =
     let at = (goal.at.returns-clause-count c) in
     let count = ap length (gathered at.In_ok-gather) in
-    let fewer = (are_sorted at.In_ok-sort_places).fewer in
+    let fewer = (are_sorted at.In_ok-sort_distinct).fewer in
     omega (
       arith,
       fewer,
       count,
-      length-map (ps at.In_ok-sort_places) (placed c.args.records.items no_record),
+      length-map (ps at.In_ok-sort_distinct) (placed c.args.records.items no_record),
     )
 
 pub returns-clause-each : goal.returns-clause-each
 returns-clause-each c =
     let at = (goal.at.returns-clause-each c) in
     subst (All IsReadRecord)
-    (sym (gathered at.In_ok-gather ∙ (are_sorted at.In_ok-sort_places).whole))
-    (all_canonical IsReadRecord c.args.records.items (read at.In_ok-sort_places))
+    (sym (gathered at.In_ok-gather ∙ (are_sorted at.In_ok-sort_distinct).whole))
+    (all_canonical IsReadRecord c.args.records.items (read at.In_ok-sort_distinct))
 
 pub returns-clause-keyed : goal.returns-clause-keyed
 returns-clause-keyed c =
     let at = (goal.at.returns-clause-keyed c) in
     keyed c.in_ok-keys.keys.items c.args.records.items c.gather.new.records.items
-    (ps at.In_ok-sort_places) c.in_ok-starts.starts.items (are_sorted at.In_ok-sort_places)
+    (ps at.In_ok-sort_distinct) c.in_ok-starts.starts.items (are_sorted at.In_ok-sort_distinct)
     (gathered at.In_ok-gather)
     (c.in_ok-starts.ensures ∙ ap (map (λ (p : SortKey). p.start)) c.as_slice-5.ensures.value)

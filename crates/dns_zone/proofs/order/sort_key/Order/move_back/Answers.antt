@@ -12,7 +12,7 @@ back-preserved c =
     let from = c.requires in
     let inside = c.back-test.true in
     let len = c.swap.ensures.len in
-    let old = c.back.places.ok.0 in
+    let old = c.back.sort_keys.ok.0 in
     let new = c.swap.new.self.ok.0 in
     record {
       count = omega (arith, count, len, old, new);

@@ -17,10 +17,10 @@ count_under-requires-clause-in_front c =
     (omega (arith, c.requires.some)) c.requires.after))
 
 -- the first owner ends with the name's octets
-place : (c : After-octets-2) → (length (wire c.args.name.now) ≤ length (wire c.owner.result))
+offset : (c : After-octets-2) → (length (wire c.args.name.now) ≤ length (wire c.owner.result))
     × (drop (length (wire c.owner.result) - length (wire c.args.name.now)) (wire c.owner.result)
     ≡ wire c.args.name.now)
-place c =
+offset c =
     let rs = c.args.records.now in
     let fits : c.args.first < length rs = omega (arith, c.requires.some, c.requires.fits) in
     ends rs c.requires.canonical c.args.name.now c.args.first fits c.requires.here c.requires.lower
@@ -29,7 +29,7 @@ place c =
     ∙ sym (owner_at rs c.args.first c.index-records-first.result fits c.index-records-first.is))
 
 pub overflow_sub-result : goal.overflow_sub-result
-overflow_sub-result c = let name = place c in grind arith
+overflow_sub-result c = let name = offset c in grind arith
 
 pub returns-clause-row : goal.returns-clause-row
 unfolding row_octets
@@ -50,5 +50,5 @@ returns-clause-row c =
     reached rs c.requires.canonical m first fits c.requires.here c.requires.before end upto
     c.requires.after own known count c.count_in_front-own.ensures.value c.requires.some
     c.max-known.ensures more in
-    let name = place (goal.at.returns-clause-row c).After-octets-2 in
+    let name = offset (goal.at.returns-clause-row c).After-octets-2 in
     grind (arith, owner_at)
