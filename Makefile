@@ -29,7 +29,7 @@ run: built
 	@echo
 	cd examples && echo $(QUERY) | zoneserve once example.com company.zone | dnsmsg
 	@echo
-	@echo 'Next: make install, and docs/OPERATE.md to serve a zone, or zonelint on your own zones (docs/CODES.md).'
+	@echo 'Next: make install, and docs/OPERATE.md to serve a zone, or bin/zonelint on your own zones (docs/CODES.md).'
 
 # Proves and builds the programs if one is missing or older than a source.
 built: $(PROGRAMS)

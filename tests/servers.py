@@ -197,9 +197,8 @@ class Serving:
             self.given.close()
 
     def is_bound(self):
-        rows = [line.split() for line in Path(f"/proc/net/{self.transport}").read_text().splitlines()[1:]]
-        state = {"udp": "07", "tcp": "0A"}[self.transport]
-        return any(row[1].endswith(f":{self.address[1]:04X}") and row[3] == state for row in rows)
+        state, sockets = {"udp": "07", "tcp": "0A"}[self.transport], Path(f"/proc/net/{self.transport}").read_text()
+        return re.search(rf"^ *\d+: \w+:{self.address[1]:04X} \S+ {state} ", sockets, re.M)
 
     def reply(self, message, seconds=2):
         """The reply to a message over a new socket, or None."""

@@ -42,23 +42,18 @@ def resident(server):
     return int(re.search(r"VmRSS:\s+(\d+)", Path(f"/proc/{server.run.pid}/status").read_text())[1])
 
 
-def recorded():
-    """The queries and replies of zoneserve's stored run, but for the lines of input that are no queries."""
-    run = TOP / "crates" / "zoneserve"
-    rows = zip((run / "stdin").read_text().split("\n"), (run / "stdout").read_text().split("\n"))
-    return [(bytes.fromhex(asked), reply) for asked, reply in rows if re.fullmatch("([0-9a-f]{2})+", asked)]
-
-
 def test_octet_for_octet(programs):
-    zone = TOP / "examples" / "example.zone"
+    """The queries of zoneserve's stored run get the replies there. Some lines of its input are no queries."""
+    zone, (asked, said) = TOP / "examples" / "example.zone", (
+        (TOP / "crates" / "zoneserve" / name).read_text().split("\n") for name in ("stdin", "stdout"))
+    rows = [(bytes.fromhex(line), None if reply == "none" else bytes.fromhex(reply))
+            for line, reply in zip(asked, said) if re.fullmatch("([0-9a-f]{2})+", line)]
     with zoneserve(programs, "udp", zone) as server:
-        for asked, reply in recorded():
-            wanted = None if reply == "none" else bytes.fromhex(reply)
-            assert server.reply(asked, 2 if wanted else 0.2) == wanted
+        for line, reply in rows:
+            assert server.reply(line, 2 if reply else 0.2) == reply
     with zoneserve(programs, "tcp", zone), connected(ADDRESS) as client:
-        client.sendall(b"".join(framed(asked) for asked, _ in recorded()))
-        for _, reply in recorded():
-            assert reply == "none" or frame_of(client) == bytes.fromhex(reply)
+        client.sendall(b"".join(framed(line) for line, _ in rows))
+        assert all(frame_of(client) == reply for _, reply in rows if reply)
 
 
 def said_by(text):

@@ -26,11 +26,6 @@ def blocks(name):
     return re.findall(r"^```.*\n((?:(?!```).*\n)*)```", text, re.M)
 
 
-def commands(block):
-    """The commands of a block, which begin with `$ `, each with its output: the text up to the next command."""
-    return [(command[2:], wanted) for command, wanted in re.findall(r"^(\$ .*)\n((?:(?!\$ ).*\n)*)", block, re.M)]
-
-
 @pytest.fixture
 def examples(tmp_path):
     """A copy of examples/, in which the commands of some pages run."""
@@ -43,11 +38,11 @@ def examples(tmp_path):
 
 @pytest.mark.parametrize("page", [page for page in PAGES + MANUAL if (page in APART) == ("RUNNER" in os.environ)])
 def test_commands_print_what_pages_say(programs, examples, page):
-    """If a program that a command needs is not installed, the rest of its block is left out. So are commands of manual
-    pages that need a socket."""
+    """A command begins with `$ `, and its output is the text up to the next one. If a program that a command needs is
+    not installed, the rest of its block is left out. So are commands of manual pages that need a socket."""
     is_apart = page in ("docs/CODES.md", "docs/IMPORT.md") or page in MANUAL
     for block in blocks(page):
-        for command, wanted in commands(block):
+        for command, wanted in re.findall(r"^\$ (.*)\n((?:(?!\$ ).*\n)*)", block, re.M):
             if any(need in command and not shutil.which(need) for need in NEEDED):
                 break
             if page not in MANUAL or not re.search("zoneserve udp|zonecompare|^dig", command):

@@ -158,22 +158,16 @@ def injecting(name, error, number):
     return ["strace", "-qq", "-o", "/dev/null", "-e", f"inject={name}:error={error}:when={number}"]
 
 
-def calls_of(case, folder):
-    """For each name of a system call in a run: the number of its calls by the loader, and by the loader and the
-    program together. The call that sets the action of SIGPIPE is the last one that is counted as the loader's."""
-    case.run(["strace", "-qq", "-o", str(folder / "trace")])
-    calls = re.findall(r"^(\w+)\((.*)", (folder / "trace").read_text(errors="replace"), re.M)
-    names, begun = [name for name, _ in calls], next(at for at, call in enumerate(calls) if "SIGPIPE" in call[1]) + 1
-    return {name: (names[:begun].count(name), names.count(name)) for name in FAILING["calls"]}
-
-
 @traced
 @pytest.mark.parametrize("name, error, message", [(name, *row) for name, row in FAILING["calls"].items()])
 def test_each_system_call_fails(case, folder, name, error, message):
     """The program must print the message for what failed. If a call for memory or `close` fails, the run may also be
-    normal."""
-    loader, last = calls_of(case, folder)[name]
-    for number in range(loader + 1, last + 1):
+    normal. The call that sets the action of SIGPIPE is the last one of the loader."""
+    case.run(["strace", "-qq", "-o", str(folder / "trace")])
+    loader, sigpipe, own = (folder / "trace").read_text(errors="replace").partition("SIGPIPE")
+    before, after = (len(re.findall(rf"^{name}\(", calls, re.M)) for calls in (loader, own))
+    assert sigpipe
+    for number in range(before + 1, before + after + 1):
         result = case.run(injecting(name, error, number))
         is_well = result == case.well and message == "no memory"
         assert is_well or case.stopped(result, message.encode(), nothing=name not in ("read", "write")), number

@@ -10,10 +10,9 @@ import sys
 from pathlib import Path
 
 import pytest
-from servers import TOP, run, spent
+from servers import DATA, TOP, run, spent
 
 sys.path.insert(0, str(TOP / "share" / "mitrehyssop"))
-DATA = TOP / "tests" / "data"
 # `means`: lines in BIND's form, and the records that they specify. `refused`: lines, and a part of the message.
 # `files`: files that can be included, the last three by random zones. `refuses`: why zoneimport refuses what BIND
 # accepts: a pattern of the fault, and the reason.
@@ -21,9 +20,7 @@ CASES = json.loads((DATA / "import.json").read_text())
 HEAD = "$TTL 1m\n@ IN SOA ns h ( 1 1h 5m 2w ; a comment\n   1m )\n@ NS ns\n@ NS ns.example.net.\nns A 192.0.2.1\n"
 OWN = {"example. 60 IN SOA ns.example. h.example. 1 3600 300 1209600 60", "example. 60 IN NS ns.example.",
        "example. 60 IN NS ns.example.net.", "ns.example. 60 IN A 192.0.2.1"}
-LOAD = ["named-compilezone",
-        *"-k ignore -i none -n ignore -m ignore -M ignore -S ignore -r ignore -T ignore -W ignore".split(),
-        "-s", "full"]
+LOAD = ["named-compilezone", *"-i none -s full".split(), *(f"-{check}ignore" for check in "knmMSrTW")]
 bind = pytest.mark.peers("named-compilezone")
 
 

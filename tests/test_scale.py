@@ -3,6 +3,7 @@ is tested in network namespaces of its own."""
 import base64
 import contextlib
 import ctypes
+import itertools
 import os
 import re
 import shutil
@@ -63,23 +64,17 @@ def network(programs, tmp_path):
 
 # ---- services behind dnsdist
 
-@contextlib.contextmanager
-def dnsdist(folder, more=""):
-    """Runs dnsdist with the settings of contrib/dnsdist.conf, and with `more` before the line that includes edns.lua.
-    Yields a function that runs a line in dnsdist's console."""
+def dnsdist(network, more=""):
+    """Starts dnsdist with the settings of contrib/dnsdist.conf, and with `more` before the line that includes edns.lua.
+    Returns a function that runs a line in dnsdist's console."""
     text = (CONTRIB / "dnsdist.conf").read_text().replace("/usr/share/mitrehyssop/contrib", str(CONTRIB))
     if more:
         text = text.replace("dofile(", f"{more}dofile(").replace("local rules = 2", "local rules = 3")
-    conf = folder / "conf"
+    conf = network.folder / "conf"
     conf.write_text(text.replace("THE KEY", base64.b64encode(os.urandom(32)).decode()))
-    with open(folder / "log", "w") as log:
-        front = subprocess.Popen(["dnsdist", "--supervised", "--disable-syslog", "-C", conf], stdout=log, stderr=log)
-    try:
-        until(lambda: dig("+noedns", "www.example.com") == "NOERROR 192.0.2.2", 10)
-        yield lambda line: run("dnsdist", "-C", conf, "-e", line)
-    finally:
-        front.terminate()
-        front.wait(10)
+    network.start("one", "dnsdist", "--supervised", "--disable-syslog", "-C", conf)
+    until(lambda: dig("+noedns", "www.example.com") == "NOERROR 192.0.2.2", 10)
+    return lambda line: run("dnsdist", "-C", conf, "-e", line)
 
 
 def dig(*words):
@@ -108,52 +103,50 @@ def services(network, programs, tmp_path):
 
 
 @pytest.mark.peers("dnsdist")
-def test_two_zones_at_one_address(services, tmp_path):
+def test_two_zones_at_one_address(network, services):
     """Questions with and without EDNS, a zone that is added while dnsdist runs, and clients beside silent peers."""
-    with dnsdist(tmp_path) as console:
-        for over in ("+notcp", "+tcp"):
-            for edns in ("+noedns", "+edns=0"):
-                assert dig(edns, over, "www.example.com") == "NOERROR 192.0.2.2"
-        assert dig("+noedns", "www.example.net") == "REFUSED"
-        console('zone("example.net", 5302)')
-        assert until(lambda: dig("+noedns", "www.example.net") == "NOERROR 192.0.2.2")
-        with steady(0, 50, 2, SILENT="30") as client:
-            pass
-        assert client.lost_tcp == 0 and client.longest[1] < 2_000
+    console = dnsdist(network)
+    for over, edns in itertools.product(("+notcp", "+tcp"), ("+noedns", "+edns=0")):
+        assert dig(edns, over, "www.example.com") == "NOERROR 192.0.2.2"
+    assert dig("+noedns", "www.example.net") == "REFUSED"
+    console('zone("example.net", 5302)')
+    assert until(lambda: dig("+noedns", "www.example.net") == "NOERROR 192.0.2.2")
+    with steady(0, 50, 2, SILENT="30") as client:
+        pass
+    assert client.lost_tcp == 0 and client.longest[1] < 2_000
 
 
 @pytest.mark.peers("dnsdist")
-def test_reloads_and_a_killed_process_behind_dnsdist(services, tmp_path):
-    with dnsdist(tmp_path):
-        with steady() as client:
-            for serial in range(2, 12):
-                services[0].file.write_text(ZONE.format(serial))
-                services[0].reload()
-        assert client.lost <= 20, f"of {client.asked}"
-        with steady() as client:
-            os.kill(services[0].processes("udp")[0], signal.SIGKILL)
-        assert client.lost <= 2, f"of {client.asked}"
+def test_reloads_and_a_killed_process_behind_dnsdist(network, services):
+    dnsdist(network)
+    with steady() as client:
+        for serial in range(2, 12):
+            services[0].file.write_text(ZONE.format(serial))
+            services[0].reload()
+    assert client.lost <= 20, f"of {client.asked}"
+    with steady() as client:
+        os.kill(services[0].processes("udp")[0], signal.SIGKILL)
+    assert client.lost <= 2, f"of {client.asked}"
 
 
 @pytest.mark.peers("dnsdist", "openssl", "kdig")
-def test_further_settings_of_dnsdist(services, tmp_path):
+def test_further_settings_of_dnsdist(network, services, tmp_path):
     """Another address, DNS over TLS, a rate limit, and metrics, by the settings of docs/SCALE.md."""
     words = "openssl req -x509 -newkey rsa:2048 -nodes -days 2 -subj /CN=ns.example.com".split()
     assert run(*words, "-keyout", tmp_path / "key.pem", "-out", tmp_path / "cert.pem").returncode == 0
     page = (TOP / "docs" / "SCALE.md").read_text()
-    more = page.partition("so `local rules = 3`:\n\n```\n")[2].partition("```")[0].replace("/etc/dnsdist",
-                                                                                           str(tmp_path))
-    with dnsdist(tmp_path, more):
-        assert dig("+edns=0", "www.example.com") == "NOERROR 192.0.2.2"
-        assert run("dig", "+noedns", "+norec", "+short", "@2001:db8::1", "www.example.com").stdout == "192.0.2.2\n"
-        assert run("kdig", "+tls", "+norec", "+short", "@192.0.2.1", "www.example.com").stdout == "192.0.2.2\n"
-        with steady(least=3) as client:
-            pass
-        assert client.lost == 0
-        dig("+notcp", "+ignore", "+noedns", "www.example.com")
-        with urllib.request.urlopen("http://127.0.0.1:8083/metrics", timeout=5) as metrics:
-            truncated = re.search(r"^dnsdist_rule_truncated (\d+)", metrics.read().decode(), re.M)
-        assert int(truncated[1]) > 1_000
+    more = page.partition("so `local rules = 3`:\n\n```\n")[2].partition("```")[0]
+    dnsdist(network, more.replace("/etc/dnsdist", str(tmp_path)))
+    assert dig("+edns=0", "www.example.com") == "NOERROR 192.0.2.2"
+    assert run("dig", "+noedns", "+norec", "+short", "@2001:db8::1", "www.example.com").stdout == "192.0.2.2\n"
+    assert run("kdig", "+tls", "+norec", "+short", "@192.0.2.1", "www.example.com").stdout == "192.0.2.2\n"
+    with steady(least=3) as client:
+        pass
+    assert client.lost == 0
+    dig("+notcp", "+ignore", "+noedns", "www.example.com")
+    with urllib.request.urlopen("http://127.0.0.1:8083/metrics", timeout=5) as metrics:
+        truncated = re.search(r"^dnsdist_rule_truncated (\d+)", metrics.read().decode(), re.M)
+    assert int(truncated[1]) > 1_000
 
 
 # ---- a hidden primary

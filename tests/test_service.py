@@ -8,7 +8,7 @@ import time
 
 import pytest
 import servers
-from servers import Workers, asks, bound, connected, frame_of, is_answered, is_there, until
+from servers import Steady, Workers, asks, bound, connected, frame_of, is_answered, is_there, until
 
 HERE = ("127.0.0.1", 5392)
 ORIGIN = "example.com"
@@ -32,10 +32,6 @@ def run(programs, tmp_path):
     return lambda **how: Workers(programs, tmp_path, HERE, ORIGIN, file, **how)
 
 
-def steady(*rates):
-    return servers.Steady(HERE, ORIGIN, *rates)
-
-
 def test_start_and_end(run):
     with run() as workers:
         assert workers.log() == SERVES.format(1) + "\n"
@@ -54,7 +50,7 @@ def test_reloads_lose_nothing(run, records):
     with run() as workers:
         write(workers.file, 1, more)
         assert workers.reload() == 0
-        with steady() as client:
+        with Steady(HERE, ORIGIN) as client:
             for serial in range(2, 22):
                 write(workers.file, serial, more)
                 assert workers.reload() == 0, workers.log()
@@ -70,18 +66,14 @@ def test_faulty_files(run):
         assert workers.reload() == 1 and is_answered(HERE, QUESTION)
         assert f"{workers.file} is at fault:\n{workers.file}:6:7: R13" in workers.log()
         assert len(workers.log().splitlines()) < 110
-        workers.file.unlink()
-        assert workers.reload() == 2
-        assert "can't be read: No such file or directory; zonedeploy puts it there" in workers.log()
-        workers.file.symlink_to("/dev/zero")
-        assert workers.reload() == 2
-        assert "a zone is not a plain file" in workers.log()
-        workers.file.unlink()
-        os.mkfifo(workers.file)
-        assert workers.reload() == 2
-        workers.file.unlink()
-        workers.file.write_bytes(b"")
-        assert workers.reload() == 1
+        for make, status, said in [
+                (lambda: None, 2, "can't be read: No such file or directory; zonedeploy puts it there\n"),
+                (lambda: workers.file.symlink_to("/dev/zero"), 2, "a zone is not a plain file\n"),
+                (lambda: os.mkfifo(workers.file), 2, "a zone is not a plain file\n"),
+                (workers.file.touch, 1, "zonecheck ended with status 1\n")]:
+            workers.file.unlink(missing_ok=True)
+            make()
+            assert workers.reload() == status and workers.log().endswith(said)
         assert workers.processes() == before and is_answered(HERE, QUESTION)
         # The processor time of the supervisor, and of its children that have ended.
         assert sum(map(int, servers.fields_of(workers.pid)[11:15])) < 3 * os.sysconf("SC_CLK_TCK")
@@ -127,7 +119,7 @@ def test_signals_that_reload(run):
         assert is_answered(HERE, QUESTION)
 
 
-def test_a_full_folder_and_a_faulty_start(run, programs, tmp_path):
+def test_a_faulty_start(run):
     for text, sockets, status, said in [
         ("www A 192.0.2.256\n", [bound(socket.SOCK_DGRAM, HERE)], 1, ":6:7: R13"),
         ("", [socket.socketpair()[0]], 2, "descriptor 3 is no socket of UDP or TCP"),
@@ -169,10 +161,9 @@ def test_workers_that_end(run):
 
 def test_turns(run):
     """A worker that has handled its turns is followed by another."""
-    with run(TURNS="100"):
-        with steady(300, 20) as client:
-            time.sleep(3)
-        assert client.lost_tcp == 0 and client.lost <= 0, f"{client.lost} of {client.asked}"
+    with run(TURNS="100"), Steady(HERE, ORIGIN, 300, 20, least=3) as client:
+        pass
+    assert client.lost_tcp == 0 and client.lost == 0, f"{client.lost} of {client.asked}"
 
 
 def test_clients_that_stay(run):

@@ -39,17 +39,15 @@ class Importer(Reader):
     why not. `sources` has the text of each file, and `places` the number of a file in `sources` and of a line there.
 
     With `lints`, records of the types UNSERVED are left out: `passed` has for each its owner, type and line.
-    `folder` is where $INCLUDE looks for files; if it `maps`, absolute paths are looked for there too. `open` reads a file."""
+    `folder` is where $INCLUDE looks for files; if it `maps`, absolute paths are looked for there too. `reads` reads one."""
 
     def __init__(self, zone, folder, lints=False, maps=False, reads=read):
         super().__init__(zone)
         self.folder, self.lines, self.places, self.notes, self.sources = os.path.realpath(folder), [], array("Q"), {}, {}
-        self.lints, self.maps, self.reads = lints, maps, reads
-        self.passed, self.lost = [], False
+        self.lints, self.maps, self.reads, self.passed = lints, maps, reads, []
         # `restate`: whether the next record has to state its owner. `implied`: the TTL that records without one get from
         # the SOA record, or None. `size`: how many octets `lines` have. `count`: how many records were read. `files`: how
-        # many files were included. `lost`: whether an included file could not be read. `written`: the owner of the last
-        # line, if it was not yet put into `owner`.
+        # many files were included. `written`: the owner of the last line, if it was not yet put into `owner`.
         self.restate, self.implied, self.size, self.count, self.files, self.written = False, None, 0, 0, 0, None
 
     def read(self, text, path, stack=()):
@@ -88,7 +86,6 @@ class Importer(Reader):
                     new = [";" * (directive == "$DATE") + line for line in entry.lines()]
             except Refused as error:
                 self.notes[begun], new = str(error), lines[at:entry.end]
-                self.lost = self.lost or directive == "$INCLUDE"
             self.add(new, file + at + 1, file + entry.end)
             at = entry.end
 

@@ -103,7 +103,7 @@ class Zone:
     def __init__(self, origin, text, path, importer=None):
         self.origin, self.path, self.text, self.zone = origin, path, text, absolute(origin)
         made = importer or bind.Importer(self.zone, ".")
-        self.places, self.notes, self.partial, self.passed = made.places, made.notes, made.lost, made.passed
+        self.places, self.notes, self.partial, self.passed = made.places, made.notes, False, made.passed
         self.lines = made.lines or (text.split("\n") if text.startswith((*FORMS,)) else split(text, path))
         self.sources, self.lints, self.notes_found, self.fixes = made.sources or {path: text}, made.lints, [], set()
         self.faults, self.records, self.passes, self.more, self.doubtful = [], [], False, False, collections.defaultdict(set)

@@ -88,8 +88,7 @@ def span(one, *keys):
 
 def positions(one):
     """The place of a report for GitLab."""
-    place = span(one, *"abcd")
-    return {"lines": {"begin": one.line}} if len(place) == 1 else {
+    return {"lines": {"begin": one.line}} if not one.column else {
         "lines": {"begin": one.line, "end": one.end_line},
         "positions": {"begin": {"line": one.line, "column": one.column}, "end": {"line": one.end_line, "column": one.end_column}}}
 
