@@ -113,7 +113,7 @@ impl<Z: Served, S: Stream> Peer<Z, S> {
         &mut self,
         zone: &Zone,
         builder: &mut TcpBuilder,
-        room: &mut [u8; PIECE],
+        buffer: &mut [u8; PIECE],
         now: Duration,
     ) -> Result<Next, StreamFault>
         requires { zone.now ≡ Z.zone }
@@ -126,7 +126,7 @@ impl<Z: Served, S: Stream> Peer<Z, S> {
         }
         let mut is_dry = false;
         if !self.has_pending() {
-            match self.receive(room) {
+            match self.receive(buffer) {
                 Ok(0) => return self.end_of_input(),
                 Ok(count) => is_dry = count < PIECE && !self.has_ended,
                 Err(Stopped::WouldBlock) => return Ok(Next::Waits),
@@ -159,15 +159,15 @@ impl<Z: Served, S: Stream> Peer<Z, S> {
     }
 
     // Receives octets, with none pending, and no reply unsent.
-    fn receive(&mut self, room: &mut [u8; PIECE]) -> Result<usize, Stopped>
+    fn receive(&mut self, buffer: &mut [u8; PIECE]) -> Result<usize, Stopped>
         requires taken { self.old.taken ≡ vec_len self.old.input }
         requires unsent { self.old.session.unsent ≡ [] }
         ensures { IfOk result (λ n. (self.new.taken ≡ 0) × (vec_len self.new.input ≡ n)) }
     {
         self.input.clear();
         self.taken = 0;
-        let count = self.stream.receive(room)?;
-        let (octets, _) = room.split_at(count);
+        let count = self.stream.receive(buffer)?;
+        let (octets, _) = buffer.split_at(count);
         if self.input.extend_from_slice(octets).is_err() {
             unreachable!();
         }

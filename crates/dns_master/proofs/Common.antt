@@ -8,7 +8,7 @@ pub use Rattle.std.proofs.lemmas.List.{at_drop_more}
 pub use Rattle.dns_master.specs.Codes.{ForFault, IsFaultOn, OfEntry, OfFile, code_number, failures_after_read, fault_of}
 pub use Rattle.dns_master.specs.EntryForm.{EntryRead, IsWhole, IsWrong, Outcome, Reads, Step, TextMeans, line_ends, misplaced, onward, outcome_of, over, step, token_words, unended, wrong}
 pub use Rattle.dns_master.specs.OwnedBody.{with_owner}
-pub use Rattle.dns_master.specs.PieceForm.{FrontFaulty, FrontGathered, FrontTaken, MayFollow, PieceFaulty, PieceTaken, ReaderMeans, TextGathered}
+pub use Rattle.dns_master.specs.PieceForm.{FrontFaulty, FrontAdded, FrontTaken, MayFollow, PieceFaulty, PieceTaken, ReaderMeans, TextAdded}
 pub use Rattle.dns_master.specs.ReaderForm.{EntryTaken, Knows, RecordTaken, owner_of}
 pub use Rattle.dns_master.specs.RecordForm.{Inherited, IsKept, LastOwner, SpelledName, SpelledOwner, TtlOf}
 pub use Rattle.dns_master.specs.SourceForm.{AppendsPiece, Decides, IsRead, ReadsFile}

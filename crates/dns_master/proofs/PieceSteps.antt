@@ -1,5 +1,5 @@
 -- What a prefix of a text decides holds however the text goes on.
-use Rattle.dns_master.proofs.Common.{◌≡◌, ℕ, ◌+◌, ◌-◌, ◌≤◌, ◌⊎◌, inl, inr, Option, None, Some, Bool, true, false, List, [], ◌++◌, length, length-append, append-nil, append_assoc, refl, sym, ap, ◌∙◌, subst, arith, Octets, DomainName, FileFault, too_long, unwrap_or, false≢true, ResourceRecord, Meaning, records, fault_at, after, EntriesMean, Word, Token, Entry, extent_by, with_end, cut_entries, beginning, stop_at, stop_fault, beginning_decides, tokens_cut, TextMeans, EntryRead, IsWhole, Reads, outcome_of, unended, ReaderMeans, MayFollow, FrontTaken, FrontFaulty, FrontGathered, TextGathered, PieceTaken, AppendsPiece, Reader}
+use Rattle.dns_master.proofs.Common.{◌≡◌, ℕ, ◌+◌, ◌-◌, ◌≤◌, ◌⊎◌, inl, inr, Option, None, Some, Bool, true, false, List, [], ◌++◌, length, length-append, append-nil, append_assoc, refl, sym, ap, ◌∙◌, subst, arith, Octets, DomainName, FileFault, too_long, unwrap_or, false≢true, ResourceRecord, Meaning, records, fault_at, after, EntriesMean, Word, Token, Entry, extent_by, with_end, cut_entries, beginning, stop_at, stop_fault, beginning_decides, tokens_cut, TextMeans, EntryRead, IsWhole, Reads, outcome_of, unended, ReaderMeans, MayFollow, FrontTaken, FrontFaulty, FrontAdded, TextAdded, PieceTaken, AppendsPiece, Reader}
 use Rattle.dns_master.proofs.EntryCuts.{reads-more}
 use Rattle.dns_master.proofs.TextSteps.{over-at_end, nothing-means, past-means}
 use Rattle.dns_master.proofs.EntriesLoop.{after-nil, after-append}
@@ -70,9 +70,9 @@ end-faulty (Some known) o earlier text more past fault line may h other =
     rw may.0 (rw (append-nil text) (rw may.1 h))
 
 -- nothing was taken
-pub nothing-gathered : (goes_on : Option Bool) (r : Reader)
-    (text : Octets) (found : List ResourceRecord) → FrontGathered goes_on r text r text found found
-nothing-gathered goes_on r text found = record {
+pub nothing-added : (goes_on : Option Bool) (r : Reader)
+    (text : Octets) (found : List ResourceRecord) → FrontAdded goes_on r text r text found found
+nothing-added goes_on r text found = record {
   came = [];
   grown = sym (append-nil found);
   taken =
@@ -80,12 +80,12 @@ nothing-gathered goes_on r text found = record {
 }
 
 module _ (goes_on : Option Bool) (first mid : Reader) (text rest : Octets) (before found :
-    List ResourceRecord) (so : FrontGathered goes_on first text mid rest before found) where
+    List ResourceRecord) (so : FrontAdded goes_on first text mid rest before found) where
   -- one more entry is taken
-  pub more-gathered : (last : Reader) (others : Octets) (rs grown : List ResourceRecord)
+  pub more-added : (last : Reader) (others : Octets) (rs grown : List ResourceRecord)
       → FrontTaken goes_on mid rest rs last others
-      → grown ≡ found ++ rs → FrontGathered goes_on first text last others before grown
-  more-gathered last others rs grown step e = record {
+      → grown ≡ found ++ rs → FrontAdded goes_on first text last others before grown
+  more-added last others rs grown step e = record {
     came = so.came ++ rs;
     grown = e ∙ ap (λ x. x ++ rs) so.grown ∙ append_assoc before so.came rs;
     taken = λ more past later may h.
@@ -108,7 +108,7 @@ all-faulty past r text fault line h = subst
 -- a whole text was taken
 module _ (past : Bool) (first last : Reader) (held : Octets) (before found : List ResourceRecord)
     (text rest : Octets) (same : text ≡ held) (none : rest ≡ [])
-    (so : FrontGathered (Some past) first text last rest before found) where
+    (so : FrontAdded (Some past) first text last rest before found) where
   all-taken : (later : Meaning)
       → ReaderMeans last past [] later → ReaderMeans first past held (after so.came later)
   all-taken later h =
@@ -117,8 +117,8 @@ module _ (past : Bool) (first last : Reader) (held : Octets) (before found : Lis
       (refl, refl) (subst (λ x. ReaderMeans last past (x ++ []) later) (sym none) h))
 
   -- the whole text was taken, and the file ends there
-  pub all-gathered : past ≡ false → TextGathered first past held before found
-  all-gathered over = record {
+  pub all-added : past ≡ false → TextAdded first past held before found
+  all-added over = record {
     came = so.came;
     grown = so.grown;
     means = subst (λ rs. ReaderMeans first past held (records rs)) (append-nil so.came)
@@ -138,7 +138,7 @@ counted-more n m found rs grown count more e = grind (arith, length-append)
 pub piece-taken : (old new : Option Octets) (before now : Reader)
     (held text held' : Octets) (left asked : ℕ) (more : Bool) (found found' : List ResourceRecord)
     → (p : AppendsPiece old new asked held text more)
-    → asked ≤ left → FrontGathered None before text now held' found found' → PieceTaken
+    → asked ≤ left → FrontAdded None before text now held' found found' → PieceTaken
     old new before held left now held' (left - (length text - length held)) more found found'
-piece-taken old new before now held text held' left asked more found found' p most gathered =
+piece-taken old new before now held text held' left asked more found found' p most added =
     grind (arith, length-append)

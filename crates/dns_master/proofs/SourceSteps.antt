@@ -1,5 +1,5 @@
 -- A source's octets, read piece by piece.
-use Rattle.dns_master.proofs.Common.{◌≡◌, ℕ, ◌+◌, ◌≤◌, ◌<◌, ◌⊎◌, inl, inr, Bool, true, false, List, [], ◌++◌, length, take, nat_lt, length-append, append-nil, append_assoc, refl, sym, ap, ◌∙◌, subst, arith, Option, Some, None, take_all, take_at, Consumes, IsAtEnd, lt-ltb, le-ltb, Octets, DomainName, ResourceRecord, FileFault, Meaning, Means, records, fault_at, after, TextMeans, ReaderMeans, TextGathered, PieceTaken, PieceFaulty, Reader, ReadFault, Result, IfErr, IfErr-weaker, fault_handed_on, AppendsPiece, Decides, IsRead, ReadsFile, OfEntry, OfFile, code_number, fault_of, failures_after_read}
+use Rattle.dns_master.proofs.Common.{◌≡◌, ℕ, ◌+◌, ◌≤◌, ◌<◌, ◌⊎◌, inl, inr, Bool, true, false, List, [], ◌++◌, length, take, nat_lt, length-append, append-nil, append_assoc, refl, sym, ap, ◌∙◌, subst, arith, Option, Some, None, take_all, take_at, Consumes, IsAtEnd, lt-ltb, le-ltb, Octets, DomainName, ResourceRecord, FileFault, Meaning, Means, records, fault_at, after, TextMeans, ReaderMeans, TextAdded, PieceTaken, PieceFaulty, Reader, ReadFault, Result, IfErr, IfErr-weaker, fault_handed_on, AppendsPiece, Decides, IsRead, ReadsFile, OfEntry, OfFile, code_number, fault_of, failures_after_read}
 use Rattle.std.specs.Prelude.{IfOk, IsErrAnd, Ok, Err}
 use Rattle.std.proofs.lemmas.Result.{IfOk-weaker}
 use Rattle.dns_name.specs.Counted.{Counted}
@@ -37,17 +37,17 @@ module _ (old mid new : Option Octets) (o : DomainName) (r : Reader) (held : Oct
         consumed = Consumes-more old mid new so.given p.came given so.consumed p.consumed refl;
         size = omega (arith, length-append so.given p.came, so.size, p.size);
         means = λ rest goes_on later h.
-            let step : ReaderMeans r goes_on (held ++ (p.came ++ rest)) (after p.gathered.came
-            later) = subst (λ x. ReaderMeans r goes_on x (after p.gathered.came later))
-            (append_assoc held p.came rest) (p.gathered.taken rest goes_on later tt h) in
+            let step : ReaderMeans r goes_on (held ++ (p.came ++ rest)) (after p.added.came
+            later) = subst (λ x. ReaderMeans r goes_on x (after p.added.came later))
+            (append_assoc held p.came rest) (p.added.taken rest goes_on later tt h) in
             let all : TextMeans o [] goes_on
-            (so.given ++ (p.came ++ rest)) (after found (after p.gathered.came later)) =
-            so.means (p.came ++ rest) goes_on (after p.gathered.came later) step in
+            (so.given ++ (p.came ++ rest)) (after found (after p.added.came later)) =
+            so.means (p.came ++ rest) goes_on (after p.added.came later) step in
             subst (λ rs. TextMeans o [] goes_on (given ++ rest) (after rs later))
-            (sym p.gathered.grown)
+            (sym p.added.grown)
             (subst (TextMeans o [] goes_on (given ++ rest)) (after-append
-            found p.gathered.came later) (subst (λ x. TextMeans o [] goes_on x (after found
-            (after p.gathered.came later))) (sym (append_assoc so.given p.came rest)) all));
+            found p.added.came later) (subst (λ x. TextMeans o [] goes_on x (after found
+            (after p.added.came later))) (sym (append_assoc so.given p.came rest)) all));
       }
 
   -- a fault that a piece decides is decided by all octets read so far
@@ -175,14 +175,14 @@ module _ {R A : Type 0} (remaining : R → Option Octets) (old new : Counted R) 
   pub rest_read : (r : Reader) (goes_on : Bool) (held : Octets) (before : List ResourceRecord)
       → ((m : Meaning) → ReaderMeans r goes_on held m
       → Decides (remaining old.device) (remaining new.device) o (after before m))
-      → IfOk result (λ a. TextGathered r goes_on held before (found a))
+      → IfOk result (λ a. TextAdded r goes_on held before (found a))
       → IfOk result (λ a. length (found a) ≤ most_records)
       → IfErr result (OfEntry (λ fault line. ReaderMeans r goes_on held (fault_at fault line)))
       → new.failures ≡ old.failures → ReadsFile remaining old new o found result
-  rest_read r goes_on held before decided gathered few fault same = record {
+  rest_read r goes_on held before decided added few fault same = record {
     ok = IfOk-weaker result _ _ (λ a t. is_read _ _ o (records (found a))
         (subst (λ rs. Decides (remaining old.device) (remaining new.device) o (records rs))
-        (sym t.grown) (decided (records t.came) t.means))) gathered;
+        (sym t.grown) (decided (records t.came) t.means))) added;
     few = few;
     err = IfErr-weaker result _ _ (λ f h. record {
       told = λ _ memory. is_read _ _ o (fault_at (fault_of f.code) f.line)

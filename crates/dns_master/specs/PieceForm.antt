@@ -46,7 +46,7 @@ pub record TakesFirst (goes_on : Option Bool) (old : Reader) (text : Octets)
   pub lines : new.line + length rest ≤ old.line + length text
 
 -- all entries of a text were taken, and their records were added to the caller's collection
-pub record TextGathered (r : Reader) (goes_on : Bool) (text : Octets)
+pub record TextAdded (r : Reader) (goes_on : Bool) (text : Octets)
     (before after : List ResourceRecord) : Type 0 where
   pub came : List ResourceRecord
   pub grown : after ≡ before ++ came
@@ -54,7 +54,7 @@ pub record TextGathered (r : Reader) (goes_on : Bool) (text : Octets)
 
 -- entries were taken from the front of a text, and their records were added to the caller's
 -- collection
-pub record FrontGathered (goes_on : Option Bool) (old : Reader) (text : Octets) (new : Reader)
+pub record FrontAdded (goes_on : Option Bool) (old : Reader) (text : Octets) (new : Reader)
     (rest : Octets) (before after : List ResourceRecord) : Type 0 where
   pub came : List ResourceRecord
   pub grown : after ≡ before ++ came
@@ -70,7 +70,7 @@ pub record PieceTaken (old new : Option Octets) (before : Reader) (held : Octets
   pub size : length came + left' ≡ left
   pub over : more ≡ false → (came ≡ []) × IsAtEnd new
   pub some : more ≡ true → left' < left
-  pub gathered : FrontGathered None before (held ++ came) now held' found found'
+  pub added : FrontAdded None before (held ++ came) now held' found found'
 
 -- a piece was read, and the held octets followed by that piece have this fault
 pub record PieceFaulty (old new : Option Octets) (before : Reader) (held : Octets) (left : ℕ)

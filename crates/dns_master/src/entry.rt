@@ -81,7 +81,7 @@ pub(crate) fn read_entry<'a>(
     Ok(EntryEnd { later, ..end })
 }
 
-// `later` with one more word: the first word of `rest`.
+// `later` with one more word, the first word of `rest`.
 #[cold]
 #[inline(never)]
 fn one_later<'a>(later: LaterWords<'a>, rest: &'a [u8]) -> LaterWords<'a>
@@ -132,44 +132,45 @@ pub(crate) fn is_whole(end: &EntryEnd<'_>, goes_on: Option<bool>) -> Result<bool
     if end.is_ended {
         return Ok(true);
     }
-    match end_fault(end, goes_on.unwrap_or(true)) {
+    match stop_fault(end.rest, end.is_open, goes_on.unwrap_or(true)) {
         None => Ok(true),
         Some(ReadCode::TooLong) if goes_on.is_none() => Ok(false),
         Some(fault) => Err(fault),
     }
 }
 
-// The fault of an entry that no line end ends. `goes_on` is whether the text goes on past its
-// limit.
-fn end_fault(end: &EntryEnd<'_>, goes_on: bool) -> Option<ReadCode>
+/// The fault of an entry that no line end ends. `rest` is the text after its tokens, with which no
+/// token begins, and `is_open` is whether they leave a parenthesis open. `goes_on` is whether the
+/// text goes on past its limit.
+pub(crate) fn stop_fault(rest: &[u8], is_open: bool, goes_on: bool) -> Option<ReadCode>
     ensures value { option_map fault_of result
-        ≡ stop_fault (extent_by goes_on) end.now.is_open (stop_at end.now.rest.now) }
+        ≡ stop_fault (extent_by goes_on) is_open (stop_at rest.now) }
     ensures source { IfSome result (λ code. code ≢ ReadCode.SourceFailed) }
 {
-    let Some((first, others)) = end.rest.split_first() else {
-        return match (goes_on, end.is_open) {
+    let Some((first, others)) = rest.split_first() else {
+        return match (goes_on, is_open) {
             (true, _) => Some(ReadCode::TooLong),
             (_, true) => Some(ReadCode::Parenthesis),
             _ => None,
         };
     };
     if *first == b'"' {
-        let (_, place) = others.split_at(RunKind::String.length(others));
-        return Some(unless_cut_short(goes_on, place, string_fault(place)));
+        let (_, stop) = others.split_at(RunKind::String.length(others));
+        return Some(unless_cut_short(goes_on, stop, string_fault(stop)));
     }
-    Some(unless_cut_short(goes_on, end.rest, token_fault(end.rest)))
+    Some(unless_cut_short(goes_on, rest, token_fault(rest)))
 }
 
-// Returns `fault`, the fault of the text `place`, with which no token begins or continues; or
+// Returns `fault`, the fault of the text `rest`, with which no token begins or continues; or
 // returns `TooLong` if only octets past the limit could decide that, because the text may begin an
 // escape or CR LF.
-fn unless_cut_short(goes_on: bool, place: &[u8], fault: ReadCode) -> ReadCode
-    ensures value { fault_of result ≡ unless_cut_short (extent_by goes_on) place.now
+fn unless_cut_short(goes_on: bool, rest: &[u8], fault: ReadCode) -> ReadCode
+    ensures value { fault_of result ≡ unless_cut_short (extent_by goes_on) rest.now
         (fault_of fault) }
     ensures source { fault ≢ ReadCode.SourceFailed → result ≢ ReadCode.SourceFailed }
 {
     let is_cut_short = matches!(
-        place,
+        rest,
         [] | [b'\\'] | [b'\r'] | [b'\\', b'0'..=b'9'] | [b'\\', b'0'..=b'9', b'0'..=b'9']
     );
     if goes_on && is_cut_short {
@@ -179,42 +180,24 @@ fn unless_cut_short(goes_on: bool, place: &[u8], fault: ReadCode) -> ReadCode
     }
 }
 
-fn string_fault(place: &[u8]) -> ReadCode
-    ensures value { fault_of result ≡ string_fault place.now }
+// The fault of the text after the octets of a quoted string, if no quotation mark ends the string.
+fn string_fault(rest: &[u8]) -> ReadCode
+    ensures value { fault_of result ≡ string_fault rest.now }
     ensures source { result ≢ ReadCode.SourceFailed }
 {
-    match place {
+    match rest {
         [] | [b'\n', ..] | [b'\r', b'\n', ..] => ReadCode::UnendedString,
-        _ => token_fault(place),
+        _ => token_fault(rest),
     }
 }
 
 // The fault of a text with which no token begins.
-fn token_fault(place: &[u8]) -> ReadCode
-    ensures value { fault_of result ≡ token_fault place.now }
+fn token_fault(rest: &[u8]) -> ReadCode
+    ensures value { fault_of result ≡ token_fault rest.now }
     ensures source { result ≢ ReadCode.SourceFailed }
 {
-    if place.first() == Some(&b'\\') {
+    if rest.first() == Some(&b'\\') {
         return ReadCode::BadEscape;
     }
     ReadCode::BadOctet
-}
-
-/// The fault of an entry before a text with which no token begins.
-pub(crate) fn stop_fault(rest: &[u8], is_open: bool, goes_on: bool) -> Option<ReadCode>
-    ensures { option_map fault_of result
-        ≡ stop_fault (extent_by goes_on) is_open (stop_at rest.now) }
-{
-    let later = LaterWords {
-        text: rest,
-        count: 0,
-    };
-    let end = EntryEnd {
-        later,
-        lines: 0,
-        is_ended: false,
-        is_open,
-        rest,
-    };
-    end_fault(&end, goes_on)
 }

@@ -56,7 +56,7 @@ impl Earlier {
         &self,
         is_blank_led: bool,
         words: EntryWords<'_, '_>,
-        room: &mut DataBuffers,
+        buffers: &mut DataBuffers,
     ) -> Result<Option<Record>, Blame>
         requires few { length (words_left words) < 2 ^ 60 }
         requires known { IsKnown self.now }
@@ -72,13 +72,13 @@ impl Earlier {
             let Some(owner) = &self.owner else {
                 return Err(Blame::after(0, ReadCode::NoOwner));
             };
-            return self.judge_record(owner, 0, words, room);
+            return self.judge_record(owner, 0, words, buffers);
         }
         if is_directive(&first) {
             self.judge_directive(first.raw, others)?;
             return Ok(None);
         }
-        self.judge_owned(&first, others, room)
+        self.judge_owned(&first, others, buffers)
     }
 
     // The record whose owner this word states, from the words after it.
@@ -86,7 +86,7 @@ impl Earlier {
         &self,
         first: &Word<'_>,
         words: EntryWords<'_, '_>,
-        room: &mut DataBuffers,
+        buffers: &mut DataBuffers,
     ) -> Result<Option<Record>, Blame>
         requires few { length (words_left words) < 2 ^ 60 }
         requires known { IsKnown self.now }
@@ -102,7 +102,7 @@ impl Earlier {
                 words: 0,
             });
         };
-        self.judge_record(&owner, 1, words, room)
+        self.judge_record(&owner, 1, words, buffers)
     }
 
     fn judge_directive(&self, name: &[u8], words: EntryWords<'_, '_>) -> Result<(), Blame>
@@ -162,7 +162,7 @@ impl Earlier {
         owner: &Name,
         before: usize,
         words: EntryWords<'_, '_>,
-        room: &mut DataBuffers,
+        buffers: &mut DataBuffers,
     ) -> Result<Option<Record>, Blame>
         requires low { folded owner.now ≡ owner.now }
         requires few { length (words_left words) < 2 ^ 60 }
@@ -174,7 +174,7 @@ impl Earlier {
             (words_left words.entry)) }
     {
         let given = Fields::of(words);
-        let body = match self.judge_fields(owner, &given, room) {
+        let body = match self.judge_fields(owner, &given, buffers) {
             Ok(body) => body,
             Err(blame) => {
                 let words = before + words_before(blame, words, &given);
@@ -192,7 +192,7 @@ impl Earlier {
         &self,
         owner: &Name,
         fields: &Fields<'_, '_>,
-        room: &mut DataBuffers,
+        buffers: &mut DataBuffers,
     ) -> Result<Option<RecordBody>, Blame>
         requires low { folded owner.now ≡ owner.now }
         requires known { IsKnown self.now }
@@ -215,9 +215,9 @@ impl Earlier {
         let Some(ttl) = self.ttl_in_force(fields.ttl.as_ref()) else {
             return Err(Blame::after(0, ReadCode::NoTtl));
         };
-        let rdata = match Rdata::read_words_in(room, rtype, words, &self.origin) {
+        let rdata = match Rdata::read_words_in(buffers, rtype, words, &self.origin) {
             Ok(rdata) => rdata,
-            Err(fault) => return Err(data_blame(fault, room.faulty)),
+            Err(fault) => return Err(data_blame(fault, buffers.words_before_fault)),
         };
         if self.count >= MOST_RECORDS {
             return Err(Blame::after(0, ReadCode::TooManyRecords));
@@ -252,12 +252,9 @@ fn owner_number(word: &Word<'_>, origin: &Name) -> Option<u8>
     ensures { Nothing (SpelledName origin.now word.now)
         → result ≡ (if word.now.is_quoted then None else Some (name_fault word.now.raw)) }
 {
-    if word.quoted {
-        return None;
-    }
     match Name::read_text(word.raw, origin) {
-        Ok(_) => None,
-        Err(fault) => Some(fault.code()),
+        Err(fault) if !word.quoted => Some(fault.code()),
+        _ => None,
     }
 }
 
@@ -287,7 +284,8 @@ fn data_blame(fault: RdataFault, words: usize) -> Blame
     }
 }
 
-// The number of words before the one at fault, from the words after the owner.
+// The number of words before the one at fault, from the words after the owner. A TTL or a class at
+// fault is the first of these words, or the second after the other of the two.
 fn words_before(blame: Blame, words: EntryWords<'_, '_>, given: &Fields<'_, '_>) -> usize
     requires few { length (words_left words) < 2 ^ 60 }
     requires fields { given.now ≡ fields (words_left words) }
@@ -296,29 +294,10 @@ fn words_before(blame: Blame, words: EntryWords<'_, '_>, given: &Fields<'_, '_>)
     ensures value { result ≡ words_to (fault_of blame.code) (words_left words.entry) blame.words }
     ensures bound { result < 2 ^ 62 }
 {
-    match blame.code {
-        ReadCode::BadTtl => before_ttl(words),
-        ReadCode::OtherClass => before_class(words),
+    match (blame.code, words.split_first()) {
+        (ReadCode::BadTtl, Some((first, _))) => usize::from(!is_ttl_word(&first)),
+        (ReadCode::OtherClass, Some((first, _))) => usize::from(!is_class_word(&first)),
+        (ReadCode::BadTtl | ReadCode::OtherClass, None) => 0,
         _ => words.count().saturating_sub(given.others.count()) + blame.words,
-    }
-}
-
-fn before_ttl(words: EntryWords<'_, '_>) -> usize
-    ensures value { result ≡ one_unless is_ttl_word (words_left words.entry) }
-    ensures bound { result ≤ 1 }
-{
-    match words.split_first() {
-        Some((first, _)) if !is_ttl_word(&first) => 1,
-        _ => 0,
-    }
-}
-
-fn before_class(words: EntryWords<'_, '_>) -> usize
-    ensures value { result ≡ one_unless is_class_word (words_left words.entry) }
-    ensures bound { result ≤ 1 }
-{
-    match words.split_first() {
-        Some((first, _)) if !is_class_word(&first) => 1,
-        _ => 0,
     }
 }

@@ -8,9 +8,9 @@ ghost use Rattle.dns_master.specs.EarlierForm.{LooksBack};
 ghost use Rattle.dns_master.specs.FaultListForm.{IsList, ListsOctets, ListsText, ReadsOctets, TakesEntry};
 
 use crate::earlier::Earlier;
-use crate::gathers::Gathers;
 use crate::read_fault::{ReadCode, ReadFault};
 use crate::record::Record;
+use crate::record_collection::RecordCollection;
 use crate::scan::{scan, text_after};
 use crate::scanned::{EntryFault, Judged, ScannedEntry};
 use crate::source::{MOST_FILE_OCTETS, PIECE, append_piece};
@@ -83,37 +83,38 @@ pub fn read_octets<R: Read>(alloc: Global, source: &mut Tally<R>) -> Result<Vec<
 /// without a fault to the caller's collection, in order.
 ///
 /// Fails only if allocation fails. The collection may have some of the records then.
-pub fn list_text<G: Gathers>(
+pub fn list_text<C: RecordCollection>(
     alloc: Global,
     origin: &Name,
     text: &[u8],
-    found: &mut G,
+    collection: &mut C,
 ) -> Result<FaultList, AllocError>
-    ensures { IfOk result (λ list. ListsText origin.now text.now list (G.gathered found.old)
-        (G.gathered found.new)) }
+    ensures { IfOk result (λ list. ListsText origin.now text.now list (C.records collection.old)
+        (C.records collection.new)) }
 {
     let (octets, past) = text.split_at(text.len().min(MOST_FILE_OCTETS));
     let (past, _) = past.split_at(past.len().min(1));
-    list_octets(alloc, origin, octets, past, found)
+    list_octets(alloc, origin, octets, past, collection)
 }
 
 // Lists the faults of the octets that are examined; `past` is the octet after them, if there is
 // one.
-fn list_octets<G: Gathers>(
+fn list_octets<C: RecordCollection>(
     alloc: Global,
     origin: &Name,
     octets: &[u8],
     past: &[u8],
-    found: &mut G,
+    collection: &mut C,
 ) -> Result<FaultList, AllocError>
     requires { length octets.now ≤ 16777216 }
     ensures { IfOk result (λ list. ListsOctets origin.now octets.now past.now list
-        (G.gathered found.old) (G.gathered found.new)) }
+        (C.records collection.old) (C.records collection.new)) }
 {
     let mut listing = Listing::none(alloc, origin);
-    let mut room = DataBuffers::new(alloc);
+    let mut buffers = DataBuffers::new(alloc);
     let (mut words, mut places) = (Vec::new(alloc), Vec::new(alloc));
     let mut rest = octets;
+    // Only the last entry may be empty, so there are fewer than this many.
     let mut left = octets.len() + 1;
     'entries: while left > 0 {
         left -= 1;
@@ -126,7 +127,7 @@ fn list_octets<G: Gathers>(
             places: places.as_slice(),
             read,
         };
-        if !listing.take(&entry, &mut room, found)? {
+        if !listing.take(&entry, &mut buffers, collection)? {
             return Ok(listing.list);
         }
         match text_after(read.ending) {
@@ -158,22 +159,22 @@ impl Listing {
 
     // Takes an entry: adds its record to the collection, or its fault to the list. Returns whether
     // reading goes on.
-    fn take<G: Gathers>(
+    fn take<C: RecordCollection>(
         &mut self,
         entry: &ScannedEntry<'_, '_>,
-        room: &mut DataBuffers,
-        found: &mut G,
+        buffers: &mut DataBuffers,
+        collection: &mut C,
     ) -> Result<bool, AllocError>
         requires scanned { EntryScanned entry.now }
         requires known { IsKnown self.old.earlier }
         requires count { self.old.earlier.count < 2 ^ 63 }
         ensures taken { IfOk result (λ goes_on. TakesEntry self.old entry.now
-            (G.gathered found.old) self.new (G.gathered found.new) goes_on) }
+            (C.records collection.old) self.new (C.records collection.new) goes_on) }
         ensures count { IfOk result (λ _.
             self.new.earlier.count ≤ self.old.earlier.count + 1) }
     {
-        match entry.judge(&self.earlier, room)? {
-            Judged::Gives(one) => add_given(one, found)?,
+        match entry.judge(&self.earlier, buffers)? {
+            Judged::Gives(one) => add_given(one, collection)?,
             Judged::Faulty(fault) => {
                 self.list.add(fault)?;
                 if ends_list(fault.code) {
@@ -193,11 +194,11 @@ fn ends_list(code: ReadCode) -> bool
     code.number() >= 14
 }
 
-fn add_given<G: Gathers>(one: Option<Record>, found: &mut G) -> Result<(), AllocError>
-    ensures { OnOk result (G.gathered found.new ≡ G.gathered found.old ++ at_most_one one) }
+fn add_given<C: RecordCollection>(one: Option<Record>, collection: &mut C) -> Result<(), AllocError>
+    ensures { OnOk result (C.records collection.new ≡ C.records collection.old ++ at_most_one one) }
 {
     if let Some(record) = one {
-        found.add(&record)?;
+        collection.add(&record)?;
     }
     Ok(())
 }

@@ -3,11 +3,11 @@ ghost use Rattle.std.specs.Prelude.{◌≡◌, ◌≢◌, ◌+◌, ◌-◌, ◌^
 ghost use Rattle.dns_spec.specs.Meaning.{fault_at, most_records};
 ghost use Rattle.dns_master.specs.Codes.{OfEntry, OfFile, failures_after_read};
 ghost use Rattle.dns_master.specs.ReaderForm.{Knows, handed};
-ghost use Rattle.dns_master.specs.PieceForm.{FrontFaulty, FrontGathered, PieceTaken, PieceFaulty, ReaderMeans, TextGathered};
+ghost use Rattle.dns_master.specs.PieceForm.{FrontFaulty, FrontAdded, PieceTaken, PieceFaulty, ReaderMeans, TextAdded};
 
-use crate::gathers::Gathers;
 use crate::read_fault::{ReadCode, ReadFault, entry_fault};
 use crate::record::Record;
+use crate::record_collection::RecordCollection;
 use crate::source::{MOST_FILE_OCTETS, PIECE, append_piece};
 use crate::state::Reader;
 use dns_name::{Name, Tally};
@@ -15,23 +15,23 @@ use dns_rdata::{DataBuffers, RType, Rdata};
 use std::alloc::Global;
 use std::io::Read;
 
-/// The state between pieces: what the reader keeps of the entries so far, and the octets read after
-/// these entries, with which the next entry begins.
+/// Reads a file piece by piece: keeps what the reader knows of the entries so far, and the octets
+/// after these entries, with which the next entry begins.
 #[derive(Drop)]
-pub(crate) struct Begun {
+pub(crate) struct PieceReader {
     alloc: Global,
     pub(crate) reader: Reader,
-    room: DataBuffers,
+    buffers: DataBuffers,
     pub(crate) held: Vec<u8>,
     /// The number of octets held after the last attempt to take entries. The next attempt waits
     /// until twice as many are held, so that an entry of many pieces is read in linear time.
-    tried: usize,
+    held_at_attempt: usize,
     /// The number of octets that may still be read.
     pub(crate) left: usize,
 }
 
-impl Begun {
-    pub(crate) fn new(alloc: Global, origin: &Name) -> Begun
+impl PieceReader {
+    pub(crate) fn new(alloc: Global, origin: &Name) -> PieceReader
         ensures known { Knows origin.now [] result.reader }
         ensures line { result.reader.line ≡ 1 }
         ensures none { result.reader.count ≡ 0 }
@@ -52,35 +52,35 @@ impl Begun {
             last: none,
             count: 0,
         };
-        Begun {
+        PieceReader {
             alloc,
             reader,
-            room: DataBuffers::new(alloc),
+            buffers: DataBuffers::new(alloc),
             held: Vec::new(alloc),
             left: MOST_FILE_OCTETS,
-            tried: 0,
+            held_at_attempt: 0,
         }
     }
 
     /// Reads a piece, and adds the records of the entries that are complete now. Returns false at
     /// the end of the source.
-    pub(crate) fn take_piece<R: Read, G: Gathers>(
+    pub(crate) fn take_piece<R: Read, C: RecordCollection>(
         &mut self,
         source: &mut Tally<R>,
         piece: &mut [u8],
-        found: &mut G,
+        collection: &mut C,
     ) -> Result<bool, ReadFault>
-        requires room { source.old.failures < 2 ^ 64 - 1 }
+        requires few_failures { source.old.failures < 2 ^ 64 - 1 }
         requires some { 0 < self.old.left }
         requires piece { length piece.old ≡ 4096 }
         requires fits { self.old.reader.line + length self.old.held.items + self.old.left
             ≤ 16777217 }
-        requires count { length (G.gathered found.old) ≡ self.old.reader.count }
+        requires count { length (C.records collection.old) ≡ self.old.reader.count }
         ensures ok { IfOk result (λ more. PieceTaken (R.remaining source.old.device)
             (R.remaining source.new.device) self.old.reader self.old.held.items self.old.left
-            self.new.reader self.new.held.items self.new.left more (G.gathered found.old)
-            (G.gathered found.new)) }
-        ensures count { OnOk result (length (G.gathered found.new) ≡ self.new.reader.count) }
+            self.new.reader self.new.held.items self.new.left more (C.records collection.old)
+            (C.records collection.new)) }
+        ensures count { OnOk result (length (C.records collection.new) ≡ self.new.reader.count) }
         ensures fits { OnOk result (self.new.reader.line + length self.new.held.items
             + self.new.left ≤ 16777217) }
         ensures same { length piece.new ≡ length piece.old }
@@ -95,19 +95,20 @@ impl Begun {
             Err(fault) => return Err(fault),
         };
         self.left -= self.held.len() - before;
-        if self.held.len() / 2 >= self.tried {
-            self.take_front(found)?;
+        if self.held.len() / 2 >= self.held_at_attempt {
+            self.take_front(collection)?;
         }
         Ok(more)
     }
 
     // Adds the records of the complete entries in the held octets.
-    fn take_front<G: Gathers>(&mut self, found: &mut G) -> Result<(), ReadFault>
-        requires count { length (G.gathered found.old) ≡ self.old.reader.count }
+    fn take_front<C: RecordCollection>(&mut self, collection: &mut C) -> Result<(), ReadFault>
+        requires count { length (C.records collection.old) ≡ self.old.reader.count }
         requires fits { self.old.reader.line + length self.old.held.items ≤ 16777217 }
-        ensures ok { OnOk result (FrontGathered None self.old.reader self.old.held.items
-            self.new.reader self.new.held.items (G.gathered found.old) (G.gathered found.new)) }
-        ensures count { OnOk result (length (G.gathered found.new) ≡ self.new.reader.count) }
+        ensures ok { OnOk result (FrontAdded None self.old.reader self.old.held.items
+            self.new.reader self.new.held.items (C.records collection.old)
+            (C.records collection.new)) }
+        ensures count { OnOk result (length (C.records collection.new) ≡ self.new.reader.count) }
         ensures left { self.new.left ≡ self.old.left }
         ensures fits { OnOk result (self.new.reader.line + length self.new.held.items
             ≤ self.old.reader.line + length self.old.held.items) }
@@ -117,42 +118,46 @@ impl Begun {
         let rest = take_entries(
             self.alloc,
             &mut self.reader,
-            &mut self.room,
+            &mut self.buffers,
             self.held.as_slice(),
             None,
-            found,
+            collection,
         )?;
         if rest.len() < self.held.len() {
             let mut kept = Vec::new(self.alloc);
             kept.extend_from_slice(rest)?;
             self.held = kept;
         }
-        self.tried = self.held.len();
+        self.held_at_attempt = self.held.len();
         Ok(())
     }
 
     /// Adds the records of the held octets, which are the last ones of the file, or if `goes_on` is
     /// true, the last ones up to its limit.
-    pub(crate) fn finish<G: Gathers>(self, goes_on: bool, found: &mut G) -> Result<(), ReadFault>
-        requires count { length (G.gathered found.old) ≡ self.reader.count }
+    pub(crate) fn finish<C: RecordCollection>(
+        self,
+        goes_on: bool,
+        collection: &mut C,
+    ) -> Result<(), ReadFault>
+        requires count { length (C.records collection.old) ≡ self.reader.count }
         requires fits { self.reader.line + length self.held.items ≤ 16777217 }
-        ensures ok { OnOk result (TextGathered self.reader goes_on self.held.items
-            (G.gathered found.old) (G.gathered found.new)) }
-        ensures few { OnOk result (length (G.gathered found.new) ≤ most_records) }
+        ensures ok { OnOk result (TextAdded self.reader goes_on self.held.items
+            (C.records collection.old) (C.records collection.new)) }
+        ensures few { OnOk result (length (C.records collection.new) ≤ most_records) }
         ensures err { IfErr result (OfEntry (λ fault line.
             ReaderMeans self.reader goes_on self.held.items (fault_at fault line))) }
     {
-        let mut begun = self;
+        let mut reading = self;
         take_entries(
-            begun.alloc,
-            &mut begun.reader,
-            &mut begun.room,
-            begun.held.as_slice(),
+            reading.alloc,
+            &mut reading.reader,
+            &mut reading.buffers,
+            reading.held.as_slice(),
             Some(goes_on),
-            found,
+            collection,
         )?;
         if goes_on {
-            return Err(entry_fault(ReadCode::TooLong, begun.reader.line));
+            return Err(entry_fault(ReadCode::TooLong, reading.reader.line));
         }
         Ok(())
     }
@@ -160,19 +165,19 @@ impl Begun {
 
 // Adds the records of the complete entries at the front of a text, and returns the text after them.
 // `goes_on` says whether the text goes on past its limit, if that is known.
-fn take_entries<'a, G: Gathers>(
+fn take_entries<'a, C: RecordCollection>(
     alloc: Global,
     reader: &mut Reader,
-    room: &mut DataBuffers,
+    buffers: &mut DataBuffers,
     text: &'a [u8],
     goes_on: Option<bool>,
-    found: &mut G,
+    collection: &mut C,
 ) -> Result<&'a [u8], ReadFault>
     requires fits { reader.old.line + length text.now ≤ 16777217 }
-    requires count { length (G.gathered found.old) ≡ reader.old.count }
-    ensures ok { IfOk result (λ rest. FrontGathered goes_on reader.old text.now reader.new rest.now
-        (G.gathered found.old) (G.gathered found.new)) }
-    ensures count { OnOk result (length (G.gathered found.new) ≡ reader.new.count) }
+    requires count { length (C.records collection.old) ≡ reader.old.count }
+    ensures ok { IfOk result (λ rest. FrontAdded goes_on reader.old text.now reader.new rest.now
+        (C.records collection.old) (C.records collection.new)) }
+    ensures count { OnOk result (length (C.records collection.new) ≡ reader.new.count) }
     ensures lines { IfOk result (λ rest. reader.new.line + length rest.now
         ≤ reader.old.line + length text.now) }
     ensures same { IfOk result (λ rest. length text.now ≤ length rest.now
@@ -184,25 +189,29 @@ fn take_entries<'a, G: Gathers>(
     let mut rest = text;
     'entries: while !rest.is_empty() {
         let line = reader.line;
-        let (is_record, others) = match reader.take_entry(rest, goes_on, &mut words, room) {
+        let (is_record, others) = match reader.take_entry(rest, goes_on, &mut words, buffers) {
             Ok(Some(taken)) => taken,
             Ok(None) => break,
             Err(code) => return Err(entry_fault(code, line)),
         };
-        add_taken(is_record, reader, found)?;
+        add_taken(is_record, reader, collection)?;
         rest = others;
     }
     Ok(rest)
 }
 
 // Adds the reader's last record to the collection, if the entry was a record.
-fn add_taken<G: Gathers>(is_record: bool, reader: &Reader, found: &mut G) -> Result<(), ReadFault>
-    ensures ok { OnOk result (G.gathered found.new
-        ≡ G.gathered found.old ++ handed is_record reader.now.last) }
+fn add_taken<C: RecordCollection>(
+    is_record: bool,
+    reader: &Reader,
+    collection: &mut C,
+) -> Result<(), ReadFault>
+    ensures ok { OnOk result (C.records collection.new
+        ≡ C.records collection.old ++ handed is_record reader.now.last) }
     ensures err { IfErr result (λ f. (f.code ≡ ReadCode.NoMemory) × (f.line ≡ 0)) }
 {
     if is_record {
-        found.add(&reader.last)?;
+        collection.add(&reader.last)?;
     }
     Ok(())
 }

@@ -14,10 +14,10 @@ use crate::directive::{read_default_ttl, read_origin};
 use crate::entry::{is_whole, read_entry};
 use crate::entry_words::EntryWords;
 use crate::fields::{Fields, is_other_class, stated_ttl, type_and_words};
-use crate::gathers::{Gathers, WholeRecords};
-use crate::pieces::Begun;
+use crate::pieces::PieceReader;
 use crate::read_fault::{ReadCode, ReadFault};
 use crate::record::{Record, RecordBody};
+use crate::record_collection::{RecordCollection, WholeRecords};
 use crate::run::is_blank;
 use crate::source::{PIECE, append_piece};
 use crate::state::Reader;
@@ -59,28 +59,28 @@ pub fn read_zone<R: Read>(
 
 /// Reads a zone file as `read_zone` does, and adds each record to the caller's collection, which
 /// must be empty. After a fault the contents of the collection are unspecified.
-pub fn read_into<R: Read, G: Gathers>(
+pub fn read_into<R: Read, C: RecordCollection>(
     alloc: Global,
     origin: &Name,
     source: &mut Tally<R>,
-    found: &mut G,
+    collection: &mut C,
 ) -> Result<(), ReadFault>
-    requires room { source.old.failures < 2 ^ 64 - 1 }
-    requires nothing { G.gathered found.old ≡ [] }
+    requires few_failures { source.old.failures < 2 ^ 64 - 1 }
+    requires nothing { C.records collection.old ≡ [] }
     ensures { ReadsFile R.remaining source.old source.new origin.now
-        (λ _. G.gathered found.new) result }
+        (λ _. C.records collection.new) result }
 {
     let mut piece = [0; PIECE];
-    let mut begun = Begun::new(alloc, origin);
-    'pieces: while begun.left > 0 {
-        if !begun.take_piece(source, &mut piece, found)? {
-            return begun.finish(false, found);
+    let mut reading = PieceReader::new(alloc, origin);
+    'pieces: while reading.left > 0 {
+        if !reading.take_piece(source, &mut piece, collection)? {
+            return reading.finish(false, collection);
         }
     }
     // One octet past the limit tells whether the file goes on.
     let mut past = Vec::new(alloc);
     match append_piece(source, 1, &mut piece, &mut past) {
-        Ok(goes_on) => begun.finish(goes_on, found),
+        Ok(goes_on) => reading.finish(goes_on, collection),
         Err(fault) => Err(fault),
     }
 }
@@ -97,7 +97,7 @@ impl Reader {
         text: &'a [u8],
         goes_on: Option<bool>,
         words: &mut Vec<Word<'a>>,
-        room: &mut DataBuffers,
+        buffers: &mut DataBuffers,
     ) -> Result<Option<(bool, &'a [u8])>, ReadCode>
         requires some { text.now ≢ [] }
         requires fits { self.old.line + length text.now ≤ 16777217 }
@@ -113,12 +113,12 @@ impl Reader {
             return Ok(None);
         }
         let (lines, rest) = (end.lines, end.rest);
-        let found = EntryWords {
+        let words = EntryWords {
             kept: words.as_slice(),
             later: end.later,
         };
         let is_blank_led = text.first().is_some_and(|first| is_blank(*first));
-        let taken = self.take_words(is_blank_led, found, room)?;
+        let taken = self.take_words(is_blank_led, words, buffers)?;
         self.line += lines;
         Ok(Some((taken, rest)))
     }
@@ -129,7 +129,7 @@ impl Reader {
         &mut self,
         is_blank_led: bool,
         words: EntryWords<'_, '_>,
-        room: &mut DataBuffers,
+        buffers: &mut DataBuffers,
     ) -> Result<bool, ReadCode>
         ensures ok { IfOk result (λ taken. TakesEntry self.old
             (kind_by_words is_blank_led (words_left words.entry))
@@ -147,7 +147,7 @@ impl Reader {
             if self.count == 0 {
                 return Err(ReadCode::NoOwner);
             }
-            self.take_record(words, room)?;
+            self.take_record(words, buffers)?;
             return Ok(true);
         }
         if !first.quoted && first.raw.first() == Some(&b'$') {
@@ -157,7 +157,7 @@ impl Reader {
         if !self.last.spell_owner(&first, &self.origin) {
             return Err(ReadCode::BadOwner);
         }
-        self.take_record(others, room)?;
+        self.take_record(others, buffers)?;
         Ok(true)
     }
 
@@ -190,7 +190,7 @@ impl Reader {
     fn take_record(
         &mut self,
         words: EntryWords<'_, '_>,
-        room: &mut DataBuffers,
+        buffers: &mut DataBuffers,
     ) -> Result<(), ReadCode>
         ensures ok { OnOk result (TakesRecord self.old (fields (words_left words.entry)) self.new) }
         ensures counted { OnOk result (self.new.count ≡ self.old.count + 1) }
@@ -199,11 +199,11 @@ impl Reader {
             (λ fault. RecordMeans self.old (fields (words_left words.entry)) (faulty fault))) }
     {
         let fields = Fields::of(words);
-        let body = self.read_body(&fields, room)?;
+        let body = self.read_body(&fields, buffers)?;
         self.stated_ttl = fields.ttl.and(Some(body.ttl)).or(self.stated_ttl);
         self.last.ttl = body.ttl;
         self.last.rtype = body.rtype;
-        room.take_back(replace(&mut self.last.rdata, body.rdata));
+        buffers.take_back(replace(&mut self.last.rdata, body.rdata));
         self.count += 1;
         Ok(())
     }
@@ -211,7 +211,7 @@ impl Reader {
     fn read_body(
         &self,
         fields: &Fields<'_, '_>,
-        room: &mut DataBuffers,
+        buffers: &mut DataBuffers,
     ) -> Result<RecordBody, ReadCode>
         ensures ok { IfOk result (λ body. RecordMeans self.now fields.now
             (gives (with_owner self.now.last.owner body ∷ []))) }
@@ -232,7 +232,7 @@ impl Reader {
         let Some(ttl) = stated.or(self.default_ttl.or(self.stated_ttl)) else {
             return Err(ReadCode::NoTtl);
         };
-        let rdata = Rdata::read_words_in(room, rtype, words, &self.origin)?;
+        let rdata = Rdata::read_words_in(buffers, rtype, words, &self.origin)?;
         if self.count >= MOST_RECORDS {
             return Err(ReadCode::TooManyRecords);
         }

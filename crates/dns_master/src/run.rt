@@ -61,23 +61,23 @@ impl RunKind {
         ensures value { result ≡ run_length (by_itself self) 0 text.now }
         ensures bound { result ≤ length text.now }
     {
-        let mut place = front;
-        'units: while place < text.len() {
-            let octet = text[place];
+        let mut index = front;
+        'units: while index < text.len() {
+            let octet = text[index];
             if self.has(octet) {
-                place += 1;
+                index += 1;
                 continue;
             }
             if octet != b'\\' {
                 break;
             }
-            let escape = escape_length(text.split_at(place + 1).1);
+            let escape = escape_length(text.split_at(index + 1).1);
             if escape == 0 {
                 break;
             }
-            place += 1 + escape;
+            index += 1 + escape;
         }
-        place
+        index
     }
 
     /// Whether an octet may appear in the run unescaped.
@@ -101,8 +101,8 @@ fn word_front(text: &[u8]) -> usize
     let mut front = 0;
     let mut rest = text;
     'groups: while let Some((group, others)) = rest.split_first_chunk::<GROUP>() {
-        if let Some(place) = word_end(group) {
-            return front + place;
+        if let Some(index) = word_end(group) {
+            return front + index;
         }
         front += GROUP;
         rest = others;
@@ -217,13 +217,13 @@ pub(crate) fn is_blank(octet: u8) -> bool
 pub(crate) fn after_comment(text: &[u8]) -> &[u8]
     ensures { result.now ≡ drop (prefix_len (λ x. not (x == 10)) text.now) text.now }
 {
-    match line_feed_place(text) {
-        Some(place) => text.split_at(place).1,
+    match line_feed_index(text) {
+        Some(index) => text.split_at(index).1,
         None => &[],
     }
 }
 
-fn line_feed_place(text: &[u8]) -> Option<usize>
+fn line_feed_index(text: &[u8]) -> Option<usize>
     ensures { result ≡ position (λ x. x == 10) text.now }
 {
     text.iter().position(|octet| *octet == b'\n')

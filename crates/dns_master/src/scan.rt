@@ -1,5 +1,4 @@
 //! The places of words and faults in an entry of a zone file (RFC 1035 5.1).
-
 ghost use Rattle.std.specs.Prelude.{◌≡◌, ◌+◌, ◌≤◌, length, IfOk, IfSome, Some, None, MatchOption};
 ghost use Rattle.std.specs.Option.{option_map};
 ghost use Rattle.dns_spec.specs.ZoneText.{extent_by, stop_at};
@@ -7,7 +6,7 @@ ghost use Rattle.dns_spec.specs.EntryPlaces.{empty_place, octet_place, stop_octe
 ghost use Rattle.dns_master.specs.Codes.{fault_of};
 ghost use Rattle.dns_master.specs.ScanForm.{ScansEntry, shown_ending, shown_place};
 
-use crate::entry::{Progress, step_after};
+use crate::entry::{Progress, step_after, stop_fault};
 use crate::entry_words::word_of;
 use crate::read_fault::ReadCode;
 use crate::run::{RunKind, after_comment};
@@ -59,10 +58,11 @@ pub(crate) enum Ending<'a> {
     AtStop(bool, &'a [u8]),
 }
 
-/// How reading an entry ended, and the number of octets before the entry's end.
+/// How reading an entry ended.
 #[derive(Clone, Copy)]
 pub(crate) struct EntryScan<'a> {
     pub(crate) ending: Ending<'a>,
+    /// The number of octets before the end of the entry.
     pub(crate) ends: usize,
 }
 
@@ -83,38 +83,32 @@ pub(crate) fn scan<'a>(
     let mut rest = text;
     let mut is_open = false;
     'tokens: while let Some((token, others)) = first_token(rest) {
-        let begins = before + (text.len() - rest.len());
+        let at = before + (text.len() - rest.len());
         match step_after(token, is_open) {
             Progress::Misplaced => {
                 let ending = Ending::AtParenthesis(rest);
-                return Ok(EntryScan {
-                    ending,
-                    ends: begins,
-                });
+                return Ok(EntryScan { ending, ends: at });
             }
             Progress::Over => {
                 let ending = Ending::AfterLine(others);
-                return Ok(EntryScan {
-                    ending,
-                    ends: begins,
-                });
+                return Ok(EntryScan { ending, ends: at });
             }
             Progress::Onward(now_open) => is_open = now_open,
         }
         if let Some(word) = word_of(token) {
             words.push(word)?;
             let ends = before + (text.len() - others.len());
-            places.push(Span { begins, ends })?;
+            places.push(Span { begins: at, ends })?;
         }
         rest = others;
     }
-    Ok(EntryScan {
-        ending: Ending::AtStop(is_open, rest),
-        ends: before + (text.len() - stop_octets(rest).len()),
-    })
+    let ending = Ending::AtStop(is_open, rest);
+    let end = before + (text.len() - stop_octets(rest).len());
+    Ok(EntryScan { ending, ends: end })
 }
 
-/// The octets that can't continue an entry, from the text with which no token begins.
+/// The octets that can't continue an entry, at the end of `rest`, with which no token begins. If an
+/// unended string begins it, they are the octets after the string's own.
 pub(crate) fn stop_octets(rest: &[u8]) -> &[u8]
     ensures value { result.now ≡ stop_octets (stop_at rest.now) }
     ensures short { length result.now ≤ length rest.now }
@@ -145,7 +139,7 @@ pub(crate) fn ending_fault(ending: Ending<'_>, goes_on: bool) -> Option<ReadCode
     match ending {
         Ending::AfterLine(_) => None,
         Ending::AtParenthesis(_) => Some(ReadCode::Parenthesis),
-        Ending::AtStop(is_open, rest) => crate::entry::stop_fault(rest, is_open, goes_on),
+        Ending::AtStop(is_open, rest) => stop_fault(rest, is_open, goes_on),
     }
 }
 
@@ -184,8 +178,8 @@ pub(crate) fn text_after(ending: Ending<'_>) -> Option<&[u8]>
 {
     match ending {
         Ending::AfterLine(rest) => Some(rest),
-        Ending::AtParenthesis(place) => Some(next_line(place)),
+        Ending::AtParenthesis(rest) => Some(next_line(rest)),
         Ending::AtStop(_, []) => None,
-        Ending::AtStop(_, stop) => Some(next_line(stop_octets(stop))),
+        Ending::AtStop(_, rest) => Some(next_line(stop_octets(rest))),
     }
 }

@@ -42,15 +42,19 @@ pub(crate) enum Judged {
     Faulty(EntryFault),
 }
 
-/// An entry that was read: the octets that are examined, and those past them; the rest of the
-/// octets, which the entry begins; its words and their places; and how reading it ended.
+/// An entry that was read.
 #[derive(Clone, Copy)]
 pub(crate) struct ScannedEntry<'a, 'w> {
+    /// All octets of the file, up to its limit.
     pub(crate) octets: &'w [u8],
+    /// The octet past the limit, if there is one.
     pub(crate) past: &'w [u8],
+    /// The octets from the beginning of the entry on.
     pub(crate) rest: &'w [u8],
     pub(crate) words: &'a [Word<'w>],
+    /// The place of each word.
     pub(crate) places: &'a [Span],
+    /// How reading the entry ended.
     pub(crate) read: EntryScan<'w>,
 }
 
@@ -59,19 +63,19 @@ impl ScannedEntry<'_, '_> {
     pub(crate) fn judge(
         &self,
         earlier: &Earlier,
-        room: &mut DataBuffers,
+        buffers: &mut DataBuffers,
     ) -> Result<Judged, AllocError>
         requires scanned { EntryScanned self.now }
         requires known { IsKnown earlier.now }
         ensures { IfOk result (Judges earlier.now (placed self.now)) }
     {
-        if let Some(code) = self.lexical() {
-            return Ok(Judged::Faulty(self.stopped(code)));
+        if let Some(code) = self.lexical_code() {
+            return Ok(Judged::Faulty(self.lexical_fault(code)));
         }
-        match earlier.judge(self.is_blank_led(), all_kept(self.words), room) {
+        match earlier.judge(self.is_blank_led(), all_kept(self.words), buffers) {
             Ok(one) => Ok(Judged::Gives(one)),
             Err(blame) if blame.code == ReadCode::NoMemory => Err(AllocError),
-            Err(blame) => Ok(Judged::Faulty(self.blamed(blame))),
+            Err(blame) => Ok(Judged::Faulty(self.fault_by(blame))),
         }
     }
 
@@ -90,15 +94,16 @@ impl ScannedEntry<'_, '_> {
         self.rest.first().is_some_and(|first| is_blank(*first))
     }
 
-    fn lexical(&self) -> Option<ReadCode>
+    // The code of the entry's lexical fault, if it has one.
+    fn lexical_code(&self) -> Option<ReadCode>
         ensures { option_map fault_of result ≡ ending_fault
             (extent_by (nat_lt 0 (length self.now.past.now))) (shown_ending self.now.read.ending) }
     {
         ending_fault(self.read.ending, !self.past.is_empty())
     }
 
-    // The lexical fault of the entry.
-    fn stopped(&self, code: ReadCode) -> EntryFault
+    // The lexical fault of the entry, whose code is this one.
+    fn lexical_fault(&self, code: ReadCode) -> EntryFault
         requires { length self.now.octets.now ≤ 16777216 }
         ensures code { result.code ≡ code }
         ensures number { result.number ≡ None }
@@ -110,17 +115,19 @@ impl ScannedEntry<'_, '_> {
             code,
             number: None,
             place: stop_place(self.octets, self.past, code, self.read.ending),
-            entry: self.before(),
+            entry: self.octets_before(),
         }
     }
 
-    fn before(&self) -> usize
+    // The number of octets before the entry.
+    fn octets_before(&self) -> usize
         ensures { result ≡ length self.now.octets.now - length self.now.rest.now }
     {
         self.octets.len().saturating_sub(self.rest.len())
     }
 
-    fn blamed(&self, blame: Blame) -> EntryFault
+    // The fault of the entry that this blame states.
+    fn fault_by(&self, blame: Blame) -> EntryFault
         ensures code { result.code ≡ blame.code }
         ensures number { result.number ≡ blame.number }
         ensures place { shown_place result.place
@@ -128,14 +135,14 @@ impl ScannedEntry<'_, '_> {
         ensures entry { result.entry ≡ length self.now.octets.now - length self.now.rest.now }
     {
         let place = match blame.code {
-            ReadCode::NoOwner | ReadCode::TooManyRecords => Span::empty(self.before()),
+            ReadCode::NoOwner | ReadCode::TooManyRecords => Span::empty(self.octets_before()),
             _ => self.place_after(blame.words),
         };
         EntryFault {
             code: blame.code,
             number: blame.number,
             place,
-            entry: self.before(),
+            entry: self.octets_before(),
         }
     }
 

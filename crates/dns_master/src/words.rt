@@ -19,7 +19,7 @@ pub(crate) fn read_ttl(word: &Word<'_>) -> Option<u32>
     read_number(word.raw, MOST_TTL)
 }
 
-/// Whether two texts are equal, apart from the case of ASCII letters.
+/// Whether a word is this text, apart from the case of ASCII letters.
 pub(crate) fn is_word(text: &[u8], word: &[u8]) -> bool
     ensures { result ≡ is_word (text_in_lower_case text.now) word.now }
 {

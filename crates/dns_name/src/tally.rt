@@ -1,11 +1,10 @@
 //! Readers and writers that count their failures.
-ghost use Rattle.std.specs.Prelude.{◌≡◌, ◌+◌, ◌-◌, ◌^◌, ◌<◌, [], length, IfOk, OnOk};
-ghost use Rattle.std.specs.Io.Buffered.{writer_buffer, writer_contents};
+ghost use Rattle.std.specs.Prelude.{◌≡◌, ◌+◌, ◌-◌, ◌^◌, ◌<◌, [], length, IfOk};
 ghost use Rattle.std.specs.Io.{ReadsAtMost, WritesAtMost};
 ghost use Rattle.std.specs.Io.KnownBytes.{ReadConsumes, WriteAppends};
 ghost use Rattle.dns_name.specs.Counted.{Writes, failures_after, joined};
 
-use std::io::{BufWriter, Read, Write};
+use std::io::{Read, Write};
 use std::marker::Model;
 
 /// A call to a reader failed and was counted.
@@ -143,22 +142,5 @@ impl<T: Write> Tally<T> {
             return Err(SinkFailed);
         }
         Ok(())
-    }
-}
-
-impl<W: Write + Drop> Tally<BufWriter<W>> {
-    /// Flushes the buffered writer, as `flush` does. After success its buffer is empty.
-    pub fn flush_buffer(&mut self) -> Result<(), SinkFailed>
-        requires { self.old.failures < 2 ^ 64 - 1 }
-        ensures written { Writes (writer_contents W.contents) self.old self.new result [] }
-        ensures empty { OnOk result (writer_buffer self.new.device ≡ []) }
-    {
-        match self.device.flush() {
-            Ok(()) => Ok(()),
-            Err(_error) => {
-                self.failures += 1;
-                Err(SinkFailed)
-            }
-        }
     }
 }

@@ -164,9 +164,7 @@ fn push_octets(name: &mut Name, octets: &[u8]) -> Result<bool, NameFault>
     if octets.is_empty() {
         return Err(NameFault::EmptyLabel);
     }
-    let Some(label) = Label::new(octets) else {
-        return Err(NameFault::LabelTooLong);
-    };
+    let label = Label::new(octets).ok_or(NameFault::LabelTooLong)?;
     Ok(name.push(label))
 }
 

@@ -22,7 +22,7 @@ unfoldable pub use Rattle.dns_rdata.specs.AddressForm.{number_at}
 pub use Rattle.dns_rdata.specs.HexForm.{AppendsHex, digit_of}
 unfoldable pub use Rattle.dns_rdata.specs.HexForm.{hex_front}
 pub use Rattle.dns_rdata.specs.NameFront.{HasNoLabels, StandsAfterLabels}
-pub use Rattle.dns_rdata.specs.Parts.{AreCut, HasName, IsBorrowed, before_name, part_for, part_lends, parts_left, shown_part, with_octets}
+pub use Rattle.dns_rdata.specs.Parts.{AreCut, HasName, IsWirePart, before_name, part_for, borrowed_octets, parts_left, shown_part, with_octets}
 pub use Rattle.dns_rdata.specs.TypeRows.{field_of, fields_in, row_for}
 pub use Rattle.dns_rdata.specs.UnknownForm.{AppendsWord, SaysHexWord}
 pub use Rattle.dns_rdata.specs.WordForms.{Appends, AppendsSaid, as_it_is, is_marked, canonical_octets}

@@ -53,16 +53,16 @@ pub eight_octets : (gs a b c d f g h k : List ℕ) → length gs ≡ 8 → a ≡
     ≡ option_map (flat_map (bytes_high_first 2)) (eight_groups gs)
 eight_octets gs a b c d f g h k four ea eb ec ed ef eg eh ek = grind (arith, eight)
 
--- no gap begins before this place
-pub record GapSoFar (text : Octets) (place : ℕ) : Type 0 where
-  pub inside : place ≤ length text
+-- no gap begins before this index
+pub record GapSoFar (text : Octets) (index : ℕ) : Type 0 where
+  pub inside : index ≤ length text
   pub whole : around_gap text
-      ≡ option_map (with_front (take place text)) (around_gap (drop place text))
+      ≡ option_map (with_front (take index text)) (around_gap (drop index text))
 
-pub GapSoFar-end : (text : Octets) (place : ℕ)
-    → GapSoFar text place → length text ≤ place + 1 → around_gap text ≡ None
-GapSoFar-end text place so_far end = so_far.whole ∙ ap (option_map (with_front (take place text)))
-    (short (drop place text) (omega (arith, length-drop place text)))
+pub GapSoFar-end : (text : Octets) (index : ℕ)
+    → GapSoFar text index → length text ≤ index + 1 → around_gap text ≡ None
+GapSoFar-end text index so_far end = so_far.whole ∙ ap (option_map (with_front (take index text)))
+    (short (drop index text) (omega (arith, length-drop index text)))
   where
     short : (t : Octets) → length t ≤ 1 → around_gap t ≡ None
     short [] h = refl

@@ -7,7 +7,7 @@ pub groups_text-push : (g x : ℕ) (gs : List ℕ)
 groups_text-push g x [] = refl
 groups_text-push g x (h ∷ gs) = grind (arith, append_assoc, (groups_text-push h x gs))
 
--- the groups from a place on begin with the one there
+-- the groups from a index on begin with the one there
 pub one_group_at : (gs : List ℕ) (i : ℕ)
     → i < length gs → drop i gs ≡ get_or gs i 0 ∷ drop (i + 1) gs
 one_group_at gs i inside = grind (arith, suc-eq-add-one, drop-cons)
@@ -58,7 +58,7 @@ pub GroupsWritten-end : (old text : Octets) (groups others : List ℕ) (i : ℕ)
     → GroupsWritten old groups others i text → length others ≤ i → text ≡ old ++ groups_text groups
 GroupsWritten-end old text groups others i so_far end = grind (arith, take_all)
 
--- the first place of a number in a list
+-- the first index of a number in a list
 first_place : (v : ℕ) (xs : List ℕ) (i : ℕ) → i < length xs → get_or xs i 0 ≡ v
     → ((k : ℕ) → k < i → get_or xs k 0 ≢ v) → position_or_len (λ k. k == v) xs ≡ i
 first_place v [] i inside e others = absurd (omega (arith, inside))
@@ -71,12 +71,12 @@ first_place v (x ∷ xs) (suc i) inside e others =
           (omega (arith, inside)) e (λ k below. others (suc k) (omega (arith, below))),
     ))
 
--- the longest of the runs that begin at the first i places, and the place where it begins
-pub record LongestSoFar (gs : List ℕ) (i place longest : ℕ) : Type 0 where
-  pub place_is : position_or_len (λ k. k == longest) (zero_runs gs) ≡ place
+-- the longest of the runs that begin at the first i indices, and the index where it begins
+pub record LongestSoFar (gs : List ℕ) (i index longest : ℕ) : Type 0 where
+  pub place_is : position_or_len (λ k. k == longest) (zero_runs gs) ≡ index
   pub most : (k : ℕ) → k < i → get_or (zero_runs gs) k 0 ≤ longest
   pub whole : fold max 0 (zero_runs gs) ≡ fold max longest (zero_runs (drop i gs))
-  pub inside : place + longest ≤ length gs
+  pub inside : index + longest ≤ length gs
 
 run_short : (gs : List ℕ) → prefix_len is_zero gs ≤ length gs
 run_short [] = omega arith
@@ -95,10 +95,10 @@ most_more : (gs : List ℕ) (i run longest : ℕ) → i < length gs
     → run ≤ longest → (k : ℕ) → k < i + 1 → get_or (zero_runs gs) k 0 ≤ longest
 most_more gs i run longest inside e most fits k below = grind (arith, cases_lt, run_at)
 
-pub LongestSoFar-longer : (gs : List ℕ) (i place longest run : ℕ)
-    → LongestSoFar gs i place longest → i < length gs
+pub LongestSoFar-longer : (gs : List ℕ) (i index longest run : ℕ)
+    → LongestSoFar gs i index longest → i < length gs
     → run ≡ prefix_len is_zero (drop i gs) → longest < run → LongestSoFar gs (i + 1) i run
-LongestSoFar-longer gs i place longest run so_far inside e longer =
+LongestSoFar-longer gs i index longest run so_far inside e longer =
     let largest : max longest run ≡ run = omega (arith, longer) in
     record {
       place_is = first_place run
@@ -110,10 +110,10 @@ LongestSoFar-longer gs i place longest run so_far inside e longer =
       inside = omega (arith, inside, e, run_short (drop i gs), length-drop i gs);
     }
 
-pub LongestSoFar-other : (gs : List ℕ) (i place longest run : ℕ)
-    → LongestSoFar gs i place longest → i < length gs
-    → run ≡ prefix_len is_zero (drop i gs) → run ≤ longest → LongestSoFar gs (i + 1) place longest
-LongestSoFar-other gs i place longest run so_far inside e shorter =
+pub LongestSoFar-other : (gs : List ℕ) (i index longest run : ℕ)
+    → LongestSoFar gs i index longest → i < length gs
+    → run ≡ prefix_len is_zero (drop i gs) → run ≤ longest → LongestSoFar gs (i + 1) index longest
+LongestSoFar-other gs i index longest run so_far inside e shorter =
     let largest : max longest run ≡ longest = omega (arith, shorter) in
     record {
       place_is = so_far.place_is;

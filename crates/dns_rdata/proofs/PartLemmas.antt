@@ -1,5 +1,5 @@
 -- The parts of data, in order.
-use Rattle.dns_rdata.proofs.Common.{◌==◌, ◌≡◌, ℕ, suc, ◌≤◌, true, Option, None, Some, All, List, [], ◌∷◌, map, length, refl, sym, ap, ◌∙◌, subst, arith, leb-true, false≢true, false_from_ne_true, eqb-true, nil_from_length, All-nil, All-cons, none-some, same_Some, is_some, unwrap_or, option_map, Octets, cut, field_front, valid, lower_case, fields_of, cut_into, name_part, octets_part, all_strings, cut_data, lowered_data, field_of, fields_in, part_for, shown_part, with_octets, parts_left, AreCut, IsBorrowed, HasName}
+use Rattle.dns_rdata.proofs.Common.{◌==◌, ◌≡◌, ℕ, suc, ◌≤◌, true, Option, None, Some, All, List, [], ◌∷◌, map, length, refl, sym, ap, ◌∙◌, subst, arith, leb-true, false≢true, false_from_ne_true, eqb-true, nil_from_length, All-nil, All-cons, none-some, same_Some, is_some, unwrap_or, option_map, Octets, cut, field_front, valid, lower_case, fields_of, cut_into, name_part, octets_part, all_strings, cut_data, lowered_data, field_of, fields_in, part_for, shown_part, with_octets, parts_left, AreCut, IsWirePart, HasName}
 use Rattle.dns_spec.specs.Data as Data
 use Rattle.dns_rdata.specs.declared.table.Field.{Field}
 use Rattle.dns_rdata.specs.declared.parts.Part.{Part}
@@ -90,7 +90,7 @@ few_parts t ps os e = go (cut (fields_in ps) os) refl
 
 pub shown_first : (p : Field) (ps : List Field) (os : Octets) (x : Part)
     (rest : Octets) (left : List Data.Part) → field_front (field_of p) os ≡ Some (part_for x, rest)
-    → IsBorrowed x → AreCut (p ∷ ps) os → parts_left (p ∷ ps) os ≡ left
+    → IsWirePart x → AreCut (p ∷ ps) os → parts_left (p ∷ ps) os ≡ left
     → map with_octets left ≡ shown_part x ∷ map with_octets (parts_left ps rest)
 shown_first p ps os x rest left e borrowed are view = grind (arith, parts_left-cons)
 

@@ -1,16 +1,17 @@
 -- A walk over the parts of data.
-use Rattle.dns_rdata.proofs.Common.{◌≡◌, All, List, [], ◌∷◌, ◌++◌, map, get_or, drop, refl, sym, ap, ◌∙◌, subst, append_assoc, append-nil, arith, All-head, All-tail, flat_map-cons, Octets, part_octets, part_folded, joined, part_for, part_lends, shown_part, with_octets, IsBorrowed, HasName}
+use Rattle.dns_rdata.proofs.Common.{◌≡◌, All, List, [], ◌∷◌, ◌++◌, map, get_or, drop, refl, sym, ap, ◌∙◌, subst, append_assoc, append-nil, arith, All-head, All-tail, flat_map-cons, Octets, part_octets, part_folded, joined, part_for, borrowed_octets, shown_part, with_octets, IsWirePart, HasName}
 use Rattle.dns_spec.specs.Data as Data
 use Rattle.dns_rdata.specs.declared.parts.Part.{Part}
 
 -- one step of the walk gives the first of the old parts, borrowed, and leaves the others
 pub record Walked (old new : List Data.Part) (x : Part) : Type 0 where
-  pub borrowed : IsBorrowed x
+  pub borrowed : IsWirePart x
   pub names : All HasName new
   pub are : old ≡ part_for x ∷ new
 
-lent_part : (x : Part) → HasName (part_for x) → part_octets (part_for x) ≡ part_lends x → IsBorrowed x
-lent_part x h h1 = grind arith
+wire_part : (x : Part) → HasName (part_for x) → part_octets (part_for x) ≡ borrowed_octets x
+    → IsWirePart x
+wire_part x h h1 = grind arith
 
 unshown : (xs : List Data.Part) → map (λ (y : Data.Part × Octets). y.0) (map with_octets xs) ≡ xs
 unshown [] = refl
@@ -26,7 +27,7 @@ walked (p ∷ ps) new x names e =
     let others : ps ≡ new = sym (unshown ps)
     ∙ ap (λ (xs : List (Data.Part × Octets)). map (λ y. y.0) (drop 1 xs)) e ∙ unshown new in
     record {
-      borrowed = lent_part x (subst HasName same (All-head HasName p ps names))
+      borrowed = wire_part x (subst HasName same (All-head HasName p ps names))
           (ap part_octets (sym same) ∙ ap (λ y. y.1) first);
       names = subst (All HasName) others (All-tail HasName p ps names);
       are = ap (λ y. y ∷ ps) same ∙ ap (λ ys. part_for x ∷ ys) others;

@@ -2,7 +2,7 @@
 -- long. What is stored is that data, with its names in lower case.
 use Rattle.dns_rdata.proofs.Common.{◌≡◌, ◌↔◌, ℕ, zero, suc, ◌==◌, ◌≤◌, ◌⊎◌, inl, inr, true, false, nat_le, List, [], ◌∷◌, ◌++◌, map, max, length, replicate, Option, Some, refl, sym, ap, ◌∙◌, subst, arith, append-nil, length-append, list_all, is_some, option_map, unwrap_or, MatchOption, DataFaultIs, FieldsFaultIs, TypedFaultIs, to_ascii_lowercase, and_parts, and_from, le-leb, ne_eqb, false≢true, drop_at, flat_map-cons, Octets, DomainName, number, ipv4, ipv6, Field, domain, string, strings, anything, Part, octets, name, part_octets, part_folded, joined, strings_front, field_front, are_strings, cut, other_type, row_of, fields_of, Valid, Word, SaysWord, SaysFields, SaysTyped, SaysAsSpelled, Says, are_strings_alone, word_fields, map-lowercase-wire, IsName-is_name, cut-domain, cut-step, lowered_data, length-bytes_high_first, canonical_octets, is_marked}
 use Rattle.dns_spec.specs.AllFaults.{FaultyData, FaultyField, FaultyTyped}
-use Rattle.std.specs.Prelude.{None, min, ◌+◌}
+use Rattle.std.specs.Prelude.{◌+◌}
 use Rattle.dns_spec.proofs.Common.{TypeRow, or_cases}
 use Rattle.dns_rdata.proofs.NameFronts.{strings_after}
 use Rattle.dns_rdata.proofs.Ipv6Lemmas.{length-ipv6}
@@ -160,11 +160,11 @@ module _ (t : ℕ) (row : TypeRow) (origin : DomainName) (ws : List Word) (count
       some [] (f ∷ fs) h e = h
       some (w ∷ ws) fs h e = omega (arith, e)
 
-  pub typed_at_place : (i place : ℕ)
-      → true ≡ (length (word_fields count row.fields) == count) → i ≡ place
+  pub typed_at_place : (i index : ℕ)
+      → true ≡ (length (word_fields count row.fields) == count) → i ≡ index
       → FaultyField (word_fields count row.fields) origin 0 ws (i + 0)
-      → FaultyData t ws origin (place + 1)
-  typed_at_place i place many is_place fault =
+      → FaultyData t ws origin (index + 1)
+  typed_at_place i index many is_place fault =
       subst (FaultyData t ws origin) (omega (arith, is_place)) (typed_at (i + 0) many fault)
 
   -- all words were taken

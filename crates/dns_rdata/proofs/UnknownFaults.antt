@@ -21,20 +21,20 @@ not_all p [] e = absurd (omega (arith, e))
 not_all p (x ∷ xs) e = grind (arith, (not_all p xs))
 
 module _ (w : Word) (ws : List Word) (n : ℕ) (states : StatesLength w n) where
-  -- the word after the first `place` words from `\\#` on is not hex
-  pub word_not_hex : (place count : ℕ) (v : Word) (after : List Word) → is_hex v ≡ false
-      → 1 + prefix_len is_hex ws ≡ place + prefix_len is_hex (v ∷ after)
-      → count ≡ length (w ∷ ws) → count ≡ place + length (v ∷ after)
-      → FaultyUnknown (w ∷ ws) (place + 1)
-  word_not_hex place count v after bad passed all left =
+  -- the word after the first `index` words from `\\#` on is not hex
+  pub word_not_hex : (index count : ℕ) (v : Word) (after : List Word) → is_hex v ≡ false
+      → 1 + prefix_len is_hex ws ≡ index + prefix_len is_hex (v ∷ after)
+      → count ≡ length (w ∷ ws) → count ≡ index + length (v ∷ after)
+      → FaultyUnknown (w ∷ ws) (index + 1)
+  word_not_hex index count v after bad passed all left =
       let none : prefix_len is_hex (v ∷ after) ≡ 0 = rw bad refl in
       let few : prefix_len is_hex ws < length ws = omega (arith, none, passed, all, left) in
       inr (n, states, rw (not_all is_hex ws few) (omega (arith, none, passed)))
 
   -- all words after the first are hex
-  pub all_hex : (place count : ℕ) → 1 + prefix_len is_hex ws ≡ place → count ≡ length (w ∷ ws)
-      → place ≡ count → FaultyUnknown (w ∷ ws) 0
-  all_hex place count passed all over =
+  pub all_hex : (index count : ℕ) → 1 + prefix_len is_hex ws ≡ index → count ≡ length (w ∷ ws)
+      → index ≡ count → FaultyUnknown (w ∷ ws) 0
+  all_hex index count passed all over =
       inr (n, states, rw (all_passed is_hex ws (omega (arith, passed, all, over))) refl)
 
 hexes : (ws : List Word) → list_all is_hex_word ws ≡ true

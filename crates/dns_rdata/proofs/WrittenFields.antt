@@ -28,7 +28,7 @@ more_fields f fs d one h = go (field_front f d) refl
 one_word : (f : Field) → is_counted f ≡ true → has_one_word f ≡ true
 one_word f h = grind arith
 
--- the fields from place i on: the field there, and those after it
+-- the fields from index i on: the field there, and those after it
 module _ (fields : List code.Field)
     (i : ℕ) (d : code.Field) (inside : i < length fields) (octets : Octets) where
   split : fields_in

@@ -17,23 +17,23 @@ part_for (Run o) = octets o.now
 part_for (Name o) = name (labels_of o.now)
 
 -- the octets that a part borrows
-abbrev pub part_lends : Part → Octets
-part_lends (Run o) = o.now
-part_lends (Name o) = o.now
+abbrev pub borrowed_octets : Part → Octets
+borrowed_octets (Run o) = o.now
+borrowed_octets (Name o) = o.now
 
 -- if the part is a name, its octets are the wire form of a name
-abbrev pub IsBorrowed : Part → Type 0
-IsBorrowed (Run o) = ⊤
-IsBorrowed (Name o) = IsWireForm o.now
+abbrev pub IsWirePart : Part → Type 0
+IsWirePart (Run o) = ⊤
+IsWirePart (Name o) = IsWireForm o.now
 
 -- a function returned the part that a definition cuts from octets, and the octets after it
 abbrev pub Cuts : Option (Part × Bor Octets) → Option (Data.Part × Octets) → Type 0
 Cuts None read = read ≡ None
-Cuts (Some x) read = (read ≡ Some (part_for x.0, x.1.now)) × IsBorrowed x.0
+Cuts (Some x) read = (read ≡ Some (part_for x.0, x.1.now)) × IsWirePart x.0
 
 -- a part with its octets, for a borrowed part and for a part of the definitions
 abbrev pub shown_part : Part → Data.Part × Octets
-shown_part x = (part_for x, part_lends x)
+shown_part x = (part_for x, borrowed_octets x)
 
 abbrev pub with_octets : Data.Part → Data.Part × Octets
 with_octets p = (p, part_octets p)

@@ -94,7 +94,7 @@ fn first_number(text: &[u8]) -> Option<(u8, &[u8])>
     Some((number, end))
 }
 
-pub(crate) fn place_of(text: &[u8], wanted: u8) -> Option<usize>
+pub(crate) fn index_of(text: &[u8], wanted: u8) -> Option<usize>
     ensures { result ≡ position (λ octet. octet == wanted) text.now }
 {
     text.iter().position(|octet| *octet == wanted)

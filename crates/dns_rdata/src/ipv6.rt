@@ -9,7 +9,7 @@ ghost use Rattle.dns_spec.specs.AddressText.{is_group, groups_said, around_gap, 
 ghost use Rattle.dns_rdata.specs.AddressForm.{GivesPair, few_groups};
 
 use crate::hex::digit_value;
-use crate::ipv4::place_of;
+use crate::ipv4::index_of;
 use arrayvec::ArrayVec;
 
 // The number of groups in an address (RFC 4291 2.2).
@@ -39,13 +39,13 @@ pub(crate) fn read_ipv6(word: &[u8]) -> Option<[u8; 16]>
 fn split_at_gap(text: &[u8]) -> Option<(&[u8], &[u8])>
     ensures { GivesPair result (around_gap text.now) }
 {
-    let mut place = 0;
-    'places: while place + 1 < text.len() {
-        if text[place] == b':' && text[place + 1] == b':' {
-            let (front, gap_and_back) = text.split_at(place);
+    let mut index = 0;
+    'indices: while index + 1 < text.len() {
+        if text[index] == b':' && text[index + 1] == b':' {
+            let (front, gap_and_back) = text.split_at(index);
             return Some((front, &gap_and_back[2..]));
         }
-        place += 1;
+        index += 1;
     }
     None
 }
@@ -60,7 +60,7 @@ fn read_groups(text: &[u8]) -> Option<ArrayVec<u16, GROUPS>>
         return Some(groups);
     }
     let mut rest = text;
-    'groups: while let Some(end) = place_of(rest, b':') {
+    'groups: while let Some(end) = index_of(rest, b':') {
         if !push_group(&mut groups, &rest[..end]) {
             return None;
         }

@@ -19,13 +19,13 @@ pub(crate) fn text_of_ipv6(address: &[u8; 16]) -> ArrayVec<u8, MOST_IPV6_OCTETS>
 {
     let groups = groups_of_octets(address);
     let groups = groups.as_slice();
-    let (place, run) = longest_zero_run(groups);
+    let (index, run) = longest_zero_run(groups);
     let mut text = ArrayVec::new();
     if run < 2 {
         push_groups(&mut text, groups);
         return text;
     }
-    let (front, zeros_and_back) = groups.split_at(place);
+    let (front, zeros_and_back) = groups.split_at(index);
     let (_, back) = zeros_and_back.split_at(run);
     push_groups(&mut text, front);
     text.push(b':');
@@ -59,20 +59,20 @@ fn group_of(high: u8, low: u8) -> u16
 // The index at which the longest run of zero groups begins, and the number of its groups. If
 // several runs are equally long, the first counts.
 fn longest_zero_run(groups: &[u16]) -> (usize, usize)
-    ensures place { result.0 ≡ longest_place groups.now }
+    ensures index { result.0 ≡ longest_place groups.now }
     ensures run { result.1 ≡ longest_run groups.now }
     ensures inside { result.0 + result.1 ≤ length groups.now }
 {
-    let mut place = 0;
+    let mut index = 0;
     let mut longest = zero_run(groups);
-    'places: for start in 1..groups.len() {
+    'indices: for start in 1..groups.len() {
         let run = zero_run(&groups[start..]);
         if run > longest {
-            place = start;
+            index = start;
             longest = run;
         }
     }
-    (place, longest)
+    (index, longest)
 }
 
 fn zero_run(groups: &[u16]) -> usize

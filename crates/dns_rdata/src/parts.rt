@@ -7,6 +7,7 @@ ghost use Rattle.dns_rdata.specs.TypeRows.{field_of, fields_in};
 ghost use Rattle.dns_rdata.specs.NameFront.{StandsAfterLabels, HasNoLabels};
 ghost use Rattle.dns_rdata.specs.Parts.{Cuts, shown_part, with_octets, HasName};
 
+use crate::rdata::Rdata;
 use crate::rtype::RType;
 use crate::table::{Field, fields_of_type};
 use std::marker::Model;
@@ -42,8 +43,10 @@ impl<'a> Model for Parts<'a> {
     ghost invariant = { λ p. AreCut p.fields.now p.octets.now };
 }
 
-impl<'a> Parts<'a> {
-    pub(crate) fn new(rtype: RType, octets: &'a [u8]) -> Parts<'a>
+impl Rdata {
+    /// The parts of valid data, in order: runs of octets and names, at most seven, all borrowed.
+    /// Names may be in either case. Data of a type without a mnemonic is one run of octets.
+    pub fn parts(rtype: RType, octets: &[u8]) -> Parts<'_>
         requires { Valid rtype.0 octets.now }
         ensures parts { result ≡ parts rtype.0 octets.now }
         ensures names { All HasName result }

@@ -1,13 +1,14 @@
 //! Data of records (RFC 1035 3.2.1): octets without compression, with names in lower case.
-ghost use Rattle.std.specs.Prelude.{◌≡◌, ◌≤◌, ◌++◌, [], All, length, IfOk, OnOk, MatchResult, Some, IfSome, if◌then◌else◌};
-ghost use Rattle.dns_spec.specs.Data.{valid, Valid, parts, fields_of, target, lower_case, part_octets, part_folded};
-ghost use Rattle.dns_rdata.specs.Parts.{HasName, IsBorrowed, before_name, part_for};
+ghost use Rattle.std.specs.Prelude.{◌≡◌, ◌≤◌, ◌++◌, [], All, length, IfOk, OnOk, MatchResult, Some, IfSome, IsTrue, if◌then◌else◌};
+ghost use Rattle.dns_spec.specs.Names.{is_name};
+ghost use Rattle.dns_spec.specs.Data.{valid, Valid, fields_of, target, lower_case, part_octets, part_folded};
+ghost use Rattle.dns_rdata.specs.Parts.{IsWirePart, before_name, part_for};
 
-use crate::parts::{Part, Parts, are_cut};
+use crate::parts::{Part, are_cut};
 use crate::rdata_fault::RdataFault;
 use crate::rtype::RType;
 use crate::table::fields_of_type;
-use dns_name::{Name, NameRef};
+use dns_name::NameRef;
 use std::alloc::{AllocError, Global};
 use std::marker::Model;
 
@@ -98,33 +99,14 @@ impl Rdata {
         self.octets.as_slice()
     }
 
-    /// The parts of valid data, in order: runs of octets and names, at most seven, all borrowed.
-    /// Names may be in either case. Data of a type without a mnemonic is one run of octets.
-    pub fn parts(rtype: RType, octets: &[u8]) -> Parts<'_>
+    /// The first name in valid data, if there is one, borrowed from the data: for example the
+    /// server of NS, the target of CNAME, or the exchange of MX (RFC 1035 3.3.1, 3.3.9, 3.3.11).
+    pub fn target(rtype: RType, octets: &[u8]) -> Option<NameRef<'_>>
         requires { Valid rtype.0 octets.now }
-        ensures parts { result ≡ parts rtype.0 octets.now }
-        ensures names { All HasName result }
-        ensures count { length result ≤ 7 }
+        ensures value { result ≡ target rtype.0 octets.now }
+        ensures is_name { IfSome result (λ n. IsTrue (is_name n)) }
     {
-        Parts::new(rtype, octets)
-    }
-
-    /// The first name in valid data, if there is one: for example the server of NS, the target of
-    /// CNAME, or the exchange of MX (RFC 1035 3.3.1, 3.3.9, 3.3.11).
-    pub fn target(rtype: RType, octets: &[u8]) -> Option<Name>
-        requires { Valid rtype.0 octets.now }
-        ensures { result ≡ target rtype.0 octets.now }
-    {
-        let target = Rdata::target_ref(rtype, octets)?;
-        Some(target.to_name())
-    }
-
-    /// The first name in valid data, if there is one, borrowed from the data.
-    pub fn target_ref(rtype: RType, octets: &[u8]) -> Option<NameRef<'_>>
-        requires { Valid rtype.0 octets.now }
-        ensures { result ≡ target rtype.0 octets.now }
-    {
-        if let Some(count) = octets_before_name(rtype) {
+        if let Some(count) = octets_before_target(rtype) {
             let (_, name) = octets.split_at(count);
             return Some(NameRef::new(name));
         }
@@ -138,10 +120,10 @@ impl Rdata {
     }
 }
 
-// The number of octets before the name, for types whose data is numbers of fixed size, if any,
-// followed by one name (RFC 1035 3.3.1, 3.3.9, 3.3.11 and 3.3.12, RFC 2782). `None` for other
-// types.
-fn octets_before_name(rtype: RType) -> Option<usize>
+// A fast path: the number of octets before the target, for types whose data is numbers, if any, and
+// one name (RFC 1035 3.3.1, 3.3.9, 3.3.11 and 3.3.12, RFC 2782). For a type that is not listed here
+// the caller finds the target by the fields in `table`.
+fn octets_before_target(rtype: RType) -> Option<usize>
     ensures { IfSome result (λ k. before_name (fields_of rtype.0) ≡ Some k) }
 {
     match rtype {
@@ -153,7 +135,7 @@ fn octets_before_name(rtype: RType) -> Option<usize>
 }
 
 fn append_lowered(part: Part<'_>, octets: &mut Vec<u8>) -> Result<(), AllocError>
-    requires { IsBorrowed part }
+    requires { IsWirePart part }
     ensures { OnOk result (octets.new.items
         ≡ octets.old.items ++ part_octets (part_folded (part_for part.entry))) }
 {

@@ -27,7 +27,7 @@ pub struct DataBuffers {
     spelled: Vec<u8>,
     /// After words that spell no data: the number of words, from the type on, before the one at
     /// fault, which is the type if the number of words is wrong.
-    pub faulty: usize,
+    pub words_before_fault: usize,
 }
 
 impl DataBuffers {
@@ -38,7 +38,7 @@ impl DataBuffers {
             name: Name::root(),
             octets: Vec::new(alloc),
             spelled: Vec::new(alloc),
-            faulty: 0,
+            words_before_fault: 0,
         }
     }
 
@@ -78,10 +78,10 @@ impl Rdata {
     }
 
     /// The data that words spell, as `read_words` returns it. The data takes its memory from
-    /// `room`; `DataBuffers::take_back` returns the memory.
+    /// `buffers`; `DataBuffers::take_back` returns the memory.
     #[tactic(auto, using(crate::proofs::TypedData::said_valid))]
     pub fn read_words_in<'w, W: Words<'w>>(
-        room: &mut DataBuffers,
+        buffers: &mut DataBuffers,
         rtype: RType,
         words: W,
         origin: &Name,
@@ -95,24 +95,24 @@ impl Rdata {
         ensures which { IfErr result (λ fault. fault ≢ RdataFault.NoMemory
             → DataFaultIs rtype.0 (W.to_come words) origin.now (fault_code fault)) }
         ensures faulty { IfErr result (λ fault. fault ≢ RdataFault.NoMemory
-            → FaultyData rtype.0 (W.to_come words) origin.now room.new.faulty) }
+            → FaultyData rtype.0 (W.to_come words) origin.now buffers.new.words_before_fault) }
     {
-        let mut octets = replace(&mut room.octets, Vec::new(room.alloc));
+        let mut octets = replace(&mut buffers.octets, Vec::new(buffers.alloc));
         octets.clear();
         octets.reserve_exact(USUAL_OCTETS)?;
         if let Some((first, others)) = words.split_first() {
             if is_unknown_mark(&first) {
-                room.spelled.clear();
-                room.faulty = 1;
-                if let Err(fault) = put_unknown(others, &mut room.spelled) {
-                    room.faulty = faulty_unknown(others).min(words.count() - 1) + 1;
+                buffers.spelled.clear();
+                buffers.words_before_fault = 1;
+                if let Err(fault) = put_unknown(others, &mut buffers.spelled) {
+                    buffers.words_before_fault = faulty_unknown(others).min(words.count() - 1) + 1;
                     return Err(fault);
                 }
-                return Rdata::lowered(rtype, room.spelled.as_slice(), octets);
+                return Rdata::lowered(rtype, buffers.spelled.as_slice(), octets);
             }
         }
-        let faulty = &mut room.faulty;
-        put_typed(rtype, words, origin, &mut room.name, faulty, &mut octets)?;
+        let before = &mut buffers.words_before_fault;
+        put_typed(rtype, words, origin, &mut buffers.name, before, &mut octets)?;
         Ok(Rdata { octets })
     }
 }

@@ -5,7 +5,7 @@ ghost use Rattle.dns_spec.specs.TypeText.{NamesType, type_text};
 ghost use Rattle.dns_name.specs.Counted.{Writes};
 
 use crate::number::read_number;
-use crate::table::{row_of_mnemonic, row_of_type, same_text};
+use crate::table::{row_of_mnemonic, row_of_type};
 use dns_name::{SinkFailed, Tally, TextBuffer};
 use itoa::Buffer;
 use std::io::Write;
@@ -60,7 +60,7 @@ impl RType {
             return Some(RType(row.number));
         }
         let (prefix, digits) = word.split_at_checked(4)?;
-        if !same_text(prefix, b"TYPE") {
+        if !prefix.eq_ignore_ascii_case(b"TYPE") {
             return None;
         }
         let number = read_number(digits, u32::from(u16::MAX))?;

@@ -4,8 +4,7 @@ ghost use Rattle.std.specs.Option.{option_map};
 ghost use Rattle.std.specs.List.{find};
 ghost use Rattle.dns_spec.specs.Data.{type_table, row_of, fields_of};
 ghost use Rattle.dns_spec.specs.DataText.{are_strings_alone};
-ghost use Rattle.dns_spec.specs.Names.{octets_equal};
-ghost use Rattle.dns_spec.specs.TypeText.{row_by_mnemonic, text_in_lower_case};
+ghost use Rattle.dns_spec.specs.TypeText.{row_by_mnemonic};
 ghost use Rattle.dns_rdata.specs.TypeRows.{row_for, fields_in, has_number, has_mnemonic};
 
 use crate::rtype::RType;
@@ -74,6 +73,7 @@ pub(crate) fn types() -> &'static [TypeRow]
     &TYPES
 }
 
+/// The row of a type. `None` if the type has no mnemonic.
 pub(crate) fn row_of_type(rtype: RType) -> Option<&'static TypeRow>
     ensures { option_map (λ r. row_for r.now) result ≡ row_of rtype.0 }
 {
@@ -104,6 +104,7 @@ pub(crate) fn is_strings(fields: &[Field]) -> bool
     matches!(fields, [Field::Strings])
 }
 
+/// The row of the type whose mnemonic a word is, in any case.
 pub(crate) fn row_of_mnemonic(word: &[u8]) -> Option<&'static TypeRow>
     ensures { option_map (λ r. row_for r.now) result ≡ row_by_mnemonic word.now }
 {
@@ -113,12 +114,6 @@ pub(crate) fn row_of_mnemonic(word: &[u8]) -> Option<&'static TypeRow>
 fn named_row<'a>(rows: &'a [TypeRow], word: &[u8]) -> Option<&'a TypeRow>
     ensures { option_map (λ r. r.now) result ≡ find (has_mnemonic word.now) rows.now }
 {
-    rows.iter().find(|row| same_text(word, row.mnemonic))
-}
-
-/// Whether two texts are equal, ignoring the case of ASCII letters.
-pub(crate) fn same_text(left: &[u8], right: &[u8]) -> bool
-    ensures { result ≡ octets_equal (text_in_lower_case left.now) (text_in_lower_case right.now) }
-{
-    left.eq_ignore_ascii_case(right)
+    rows.iter()
+        .find(|row| word.eq_ignore_ascii_case(row.mnemonic))
 }

@@ -57,12 +57,12 @@ pub(crate) fn put_typed<'w, W: Words<'w>>(
         return Err(RdataFault::WordCount);
     }
     let mut others = words;
-    'words: for place in 0..count {
+    'words: for index in 0..count {
         let Some((word, after)) = others.split_first() else {
             unreachable!();
         };
-        *faulty = place + 1;
-        append_word(field_at(row.fields, place), &word, origin, name, octets)?;
+        *faulty = index + 1;
+        append_word(field_at(row.fields, index), &word, origin, name, octets)?;
         if octets.len() > MAX_OCTETS {
             return Err(RdataFault::BadString);
         }
@@ -82,16 +82,16 @@ fn is_word_count(fields: &[Field], count: usize) -> bool
     }
 }
 
-// The field that word number `place` spells, counted from 0.
-fn field_at(fields: &[Field], place: usize) -> Field
-    requires { (k : ℕ) × (place < k) × (length (word_fields k (fields_in fields.now)) ≡ k) }
-    ensures { (k : ℕ) → place < k
-        → slice_get (word_fields k (fields_in fields.now)) place ≡ Some (field_of result) }
+// The field that word number `index` spells, counted from 0.
+fn field_at(fields: &[Field], index: usize) -> Field
+    requires { (k : ℕ) × (index < k) × (length (word_fields k (fields_in fields.now)) ≡ k) }
+    ensures { (k : ℕ) → index < k
+        → slice_get (word_fields k (fields_in fields.now)) index ≡ Some (field_of result) }
 {
     if is_strings(fields) {
         Field::Strings
     } else {
-        fields[place]
+        fields[index]
     }
 }
 

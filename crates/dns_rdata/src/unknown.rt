@@ -72,12 +72,12 @@ pub(crate) fn faulty_unknown<'w, W: Words<'w>>(words: W) -> usize
         return 1;
     }
     let mut others = others;
-    'words: for place in 1..count {
+    'words: for index in 1..count {
         let Some((word, after)) = others.split_first() else {
             unreachable!();
         };
         if !is_hex(&word) {
-            return place + 1;
+            return index + 1;
         }
         others = after;
     }

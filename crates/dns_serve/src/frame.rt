@@ -16,7 +16,9 @@ const MOST_KEPT: usize = 514;
 /// The octets of a frame that a stream has given so far.
 #[derive(Drop)]
 pub struct Frame {
+    // The first of these octets.
     kept: ArrayVec<u8, MOST_KEPT>,
+    // How many octets the stream has given.
     came: usize,
     ghost kept_came: { array_vec_len kept ≡ min came 514 },
     ghost within: { 2 ≤ came → came ≤ 2 + field16 kept.items 0 },

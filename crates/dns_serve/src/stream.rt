@@ -43,37 +43,37 @@ pub fn serve_stream<R: Read, W: Write>(
     ensures session { SessionOf (reply_over_tcp zone.now) most
         (session R.remaining W.contents source.old source.new sink.old sink.new) result }
 {
-    let (mut frame, mut room) = (Frame::new(), [0; MOST_FRAME]);
+    let (mut frame, mut buffer) = (Frame::new(), [0; MOST_FRAME]);
     let mut builder = TcpBuilder::new();
     let mut served = 0;
     'messages: while served < most {
-        if !read_frame(source, &mut frame, &mut room)? {
+        if !read_frame(source, &mut frame, &mut buffer)? {
             break;
         }
         let message = frame.message();
-        write_reply(zone, message, sink, &mut builder, &mut room)?;
+        write_reply(zone, message, sink, &mut builder, &mut buffer)?;
         sink.flush()?;
         served += 1;
     }
     Ok(served)
 }
 
-// Reads the next frame of the source, and no octet after it, through `room`. False if the source
+// Reads the next frame of the source, and no octet after it, through `buffer`. False if the source
 // ends before it.
 fn read_frame<R: Read>(
     source: &mut Tally<R>,
     frame: &mut Frame,
-    room: &mut [u8],
+    buffer: &mut [u8],
 ) -> Result<bool, StreamFault>
     requires source { source.old.failures < 2 ^ 64 - 1 }
-    requires room { 65537 ≤ length room.old }
+    requires room { 65537 ≤ length buffer.old }
     ensures read { FrameRead (R.remaining source.old.device) (R.remaining source.new.device)
         frame.new result }
     ensures source { source.new.failures ≡ source_failures_after source.old.failures result }
 {
     frame.clear();
     'pieces: while frame.missing() > 0 {
-        let (piece, _) = room.split_at_mut(frame.missing());
+        let (piece, _) = buffer.split_at_mut(frame.missing());
         let count = source.read(piece)?;
         if count == 0 {
             return if frame.is_empty() {
@@ -94,10 +94,10 @@ fn write_reply<W: Write>(
     message: &[u8],
     sink: &mut Tally<W>,
     builder: &mut TcpBuilder,
-    room: &mut [u8],
+    buffer: &mut [u8],
 ) -> Result<(), SinkFailed>
     requires sink { sink.old.failures < 2 ^ 64 - 1 }
-    requires room { length room.old ≡ 65537 }
+    requires room { length buffer.old ≡ 65537 }
     ensures { Writes W.contents sink.old sink.new result
         (reply_frame (reply_over_tcp zone.now message.now)) }
 {
@@ -105,9 +105,9 @@ fn write_reply<W: Write>(
     let Some(reply) = respond_in(&mut steps, message, builder) else {
         return Ok(());
     };
-    let (length, rest) = room.split_at_mut(2);
+    let (length, rest) = buffer.split_at_mut(2);
     BigEndian::write_u16(length, reply.len() as u16);
     let (front, _) = rest.split_at_mut(reply.len());
     front.copy_from_slice(reply);
-    sink.write_all(&room[..reply.len() + 2])
+    sink.write_all(&buffer[..reply.len() + 2])
 }

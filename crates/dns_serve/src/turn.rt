@@ -24,9 +24,9 @@ pub fn udp_turn<D: Datagrams>(zone: &Zone, device: &mut D) -> Result<bool, TurnF
     ensures turn { TurnOf zone.now (turn D.received D.sent device.old device.new) result }
     ensures counted { D.count device.new ≡ failures_after (D.count device.old) result }
 {
-    let mut room = [0; MOST_KEPT];
+    let mut buffer = [0; MOST_KEPT];
     let mut builder = UdpBuilder::new();
-    udp_turn_in(zone, device, &mut room, &mut builder)
+    udp_turn_in(zone, device, &mut buffer, &mut builder)
 }
 
 /// Takes a turn as `udp_turn` does, in the caller's buffers: for the datagram and for the reply.
@@ -35,17 +35,17 @@ pub fn udp_turn<D: Datagrams>(zone: &Zone, device: &mut D) -> Result<bool, TurnF
 pub fn udp_turn_in<D: Datagrams>(
     zone: &Zone,
     device: &mut D,
-    room: &mut [u8; MOST_KEPT],
+    buffer: &mut [u8; MOST_KEPT],
     builder: &mut UdpBuilder,
 ) -> Result<bool, TurnFault>
     requires { D.count device.old < 2 ^ 64 - 1 }
     ensures turn { TurnOf zone.now (turn D.received D.sent device.old device.new) result }
     ensures counted { D.count device.new ≡ failures_after (D.count device.old) result }
 {
-    let Ok(count) = device.receive(room) else {
+    let Ok(count) = device.receive(buffer) else {
         return Err(TurnFault::ReceiveFailed);
     };
-    let (datagram, _) = room.split_at(count);
+    let (datagram, _) = buffer.split_at(count);
     let mut steps = Steps::new(zone);
     let Some(reply) = respond_in(&mut steps, datagram, builder) else {
         return Ok(false);

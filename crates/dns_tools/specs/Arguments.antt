@@ -15,11 +15,11 @@ use Rattle.dns_tools.specs.declared.stop.FaultText.{FaultText}
 use Rattle.dns_tools.specs.declared.stop.FaultText.TheVariants.{Usage, BadOrigin, NoMemory}
 
 -- the diagnostics for refused arguments
-abbrev pub is_word_fault : FaultText → Bool
-is_word_fault Usage = true
-is_word_fault BadOrigin = true
-is_word_fault NoMemory = true
-is_word_fault _ = false
+abbrev pub is_argument_fault : FaultText → Bool
+is_argument_fault Usage = true
+is_argument_fault BadOrigin = true
+is_argument_fault NoMemory = true
+is_argument_fault _ = false
 
 -- the diagnostics that are possible before ORIGIN is read
 abbrev pub IsRefusal : FaultText → Type 0

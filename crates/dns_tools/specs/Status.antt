@@ -24,32 +24,32 @@ status_of (Ok false) = 1
 status_of (Err e) = 2
 
 -- the diagnostic for a run that stopped
-abbrev pub word_of : Stop → FaultText
-word_of Memory = NoMemory
-word_of Source = FileFailed
-word_of Sink = NotWritten
+abbrev pub fault_text : Stop → FaultText
+fault_text Memory = NoMemory
+fault_text Source = FileFailed
+fault_text Sink = NotWritten
 
 -- the diagnostic for arguments that `clap` refuses
-abbrev pub word_of_kind : ErrorKind → FaultText
-word_of_kind OutOfMemory = NoMemory
-word_of_kind _ = Usage
+abbrev pub text_of_kind : ErrorKind → FaultText
+text_of_kind OutOfMemory = NoMemory
+text_of_kind _ = Usage
 
 -- how a program ends: with a status, or with a diagnostic
 abbrev pub end_of : Result Bool Stop → Result ℕ FaultText
 end_of (Ok passes) = Ok (status_of {E = Stop} (Ok passes))
-end_of (Err stop) = Err (word_of stop)
+end_of (Err stop) = Err (fault_text stop)
 
 -- the status of a server after its last turn
 abbrev pub status_of_turns : Bool → ℕ
 status_of_turns are_said = if are_said then 0 else 2
 
 -- the diagnostic for a turn over UDP that failed
-abbrev pub word_of_turn : TurnFault → TurnFaultText
-word_of_turn ReceiveFailed = NoDatagram
-word_of_turn SendFailed = NotSent
+abbrev pub text_of_turn : TurnFault → TurnFaultText
+text_of_turn ReceiveFailed = NoDatagram
+text_of_turn SendFailed = NotSent
 
 -- the diagnostic for a session over a stream that ended early
-abbrev pub word_of_stream : StreamFault → TurnFaultText
-word_of_stream SourceFailed = StreamNotRead
-word_of_stream SinkFailed = StreamNotWritten
-word_of_stream Cut = StreamCut
+abbrev pub text_of_stream : StreamFault → TurnFaultText
+text_of_stream SourceFailed = StreamNotRead
+text_of_stream SinkFailed = StreamNotWritten
+text_of_stream Cut = StreamCut

@@ -7,7 +7,7 @@ ghost use Rattle.dns_spec.specs.CommandWords.{is_dashed, ZoneWords, EndWords, Ar
 ghost use Rattle.clap.specs.Walk.{rule_of};
 ghost use Rattle.clap.specs.Simple.{app_of};
 ghost use Rattle.dns_tools.specs.Checked.{options_of};
-ghost use Rattle.dns_tools.specs.Arguments.{is_word_fault, IsRefusal, service_of, transport_of, limit_words, IsOrigin, IsNoOrigin, IsService, IsCheckCall, IsServeCall, IsSocketCall, HasBadOrigin, AskNothing};
+ghost use Rattle.dns_tools.specs.Arguments.{is_argument_fault, IsRefusal, service_of, transport_of, limit_words, IsOrigin, IsNoOrigin, IsService, IsCheckCall, IsServeCall, IsSocketCall, HasBadOrigin, AskNothing};
 ghost use Rattle.dns_tools.specs.ClapCommands.{option_rule, bare_app, once_app, check_app};
 
 use crate::check::Flags;
@@ -108,7 +108,7 @@ pub fn serve_words<'a, S: AsStr>(alloc: Global, words: &'a [S]) -> Result<ServeW
         → HasBadOrigin (AskToServe (map S.text words.entry.now)) }
     ensures usage { result ≡ Err FaultText.Usage
         → AskNothing (AskToServe (map S.text words.entry.now)) }
-    ensures fault { IfErr result (λ fault. IsTrue (is_word_fault fault)) }
+    ensures fault { IfErr result (λ fault. IsTrue (is_argument_fault fault)) }
 {
     let Some((front, origin, file)) = zone_words(words) else {
         return Err(FaultText::Usage);
@@ -132,7 +132,7 @@ pub fn check_words<'a, S: AsStr>(alloc: Global, words: &'a [S]) -> Result<CheckW
         → HasBadOrigin (AskToCheck (map S.text words.entry.now)) }
     ensures usage { result ≡ Err FaultText.Usage
         → AskNothing (AskToCheck (map S.text words.entry.now)) }
-    ensures fault { IfErr result (λ fault. IsTrue (is_word_fault fault)) }
+    ensures fault { IfErr result (λ fault. IsTrue (is_argument_fault fault)) }
 {
     let Some((options, origin, file)) = zone_words(words) else {
         return Err(FaultText::Usage);
@@ -161,7 +161,7 @@ pub fn socket_words<'a, S: AsStr>(words: &'a [S]) -> Result<SocketWords<'a>, Fau
     let Some((front, origin, file)) = zone_words(words) else {
         return Err(FaultText::Usage);
     };
-    let Some((transport, turns)) = said_turns_over(front) else {
+    let Some((transport, turns)) = transport_and_turns(front) else {
         return Err(FaultText::Usage);
     };
     Ok(SocketWords {
@@ -200,10 +200,7 @@ fn given_service<'a, S: AsStr>(alloc: Global, front: &'a [S]) -> Result<Service<
         Some((word, options)) if word.as_str() == ONCE => {
             Ok(Service::Once(given_limit(alloc, options)?))
         }
-        _ => match said_service(front) {
-            Some(service) => Ok(service),
-            None => Err(FaultText::Usage),
-        },
+        _ => read_service(front).ok_or(FaultText::Usage),
     }
 }
 
@@ -227,7 +224,7 @@ fn given_limit<'a, S: AsStr>(alloc: Global, options: &'a [S]) -> Result<Limit, F
 }
 
 // Parses the arguments before ORIGIN and FILE: `udp` or `tcp`, ADDR and TURNS.
-fn said_service<'a, S: AsStr>(front: &'a [S]) -> Option<Service<'a>>
+fn read_service<'a, S: AsStr>(front: &'a [S]) -> Option<Service<'a>>
     ensures some { IfSome result (λ s. IsService (map S.text front.entry.now) (service_of s)) }
     ensures none { IsNone result → (t : Transport) (address : Octets) (n : ℕ)
         → IsService (map S.text front.entry.now) (by_turns t address n) → ⊥ }
@@ -235,8 +232,8 @@ fn said_service<'a, S: AsStr>(front: &'a [S]) -> Option<Service<'a>>
     let [transport, address, turns] = front else {
         return None;
     };
-    let (address, turns) = (address.as_str(), said_turns(turns.as_str())?);
-    match said_transport(transport.as_str())? {
+    let (address, turns) = (address.as_str(), read_turns(turns.as_str())?);
+    match read_transport(transport.as_str())? {
         Limit::Udp => Some(Service::Udp { address, turns }),
         Limit::Tcp => Some(Service::Tcp { address, turns }),
     }
@@ -279,7 +276,7 @@ fn are_options<S: AsStr>(words: &[S], flags: Flags) -> bool
 }
 
 // Parses the arguments before ORIGIN and FILE: `udp` or `tcp`, and TURNS.
-fn said_turns_over<S: AsStr>(front: &[S]) -> Option<(Limit, u32)>
+fn transport_and_turns<S: AsStr>(front: &[S]) -> Option<(Limit, u32)>
     ensures some { IfSome result (λ r. (map S.text front.now
         ≡ transport_word (transport_of r.0) ∷ decimal r.1 ∷ []) × (1 ≤ r.1) × (r.1 ≤ 1000000)) }
     ensures none { IsNone result → (t : Transport) (n : ℕ)
@@ -288,10 +285,8 @@ fn said_turns_over<S: AsStr>(front: &[S]) -> Option<(Limit, u32)>
     let [transport, turns] = front else {
         return None;
     };
-    Some((
-        said_transport(transport.as_str())?,
-        said_turns(turns.as_str())?,
-    ))
+    let transport = read_transport(transport.as_str())?;
+    Some((transport, read_turns(turns.as_str())?))
 }
 
 // Whether the arguments are the wanted ones.
@@ -308,7 +303,7 @@ fn are_words<S: AsStr>(words: &[S], wanted: &[&str]) -> bool
     }
 }
 
-fn said_transport(word: &str) -> Option<Limit>
+fn read_transport(word: &str) -> Option<Limit>
     ensures some { IfSome result (λ limit. word.now ≡ transport_word (transport_of limit)) }
     ensures none { IsNone result → (t : Transport) → word.now ≡ transport_word t → ⊥ }
 {
@@ -320,7 +315,7 @@ fn said_transport(word: &str) -> Option<Limit>
 }
 
 // Parses TURNS.
-fn said_turns(word: &str) -> Option<u32>
+fn read_turns(word: &str) -> Option<u32>
     ensures some { IfSome result
         (λ turns. (word.now ≡ decimal turns) × (1 ≤ turns) × (turns ≤ 1000000)) }
     ensures none { IsNone result → (n : ℕ) → word.now ≡ decimal n → 1 ≤ n → n ≤ 1000000 → ⊥ }

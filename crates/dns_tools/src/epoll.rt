@@ -1,7 +1,7 @@
 //! The sockets of the system: a listening TCP socket and its connections, whose calls do not wait.
 ghost use Rattle.std.specs.Prelude.{◌≡◌, ◌⊎◌, [], None, IfErr};
 
-use crate::startup::word_or_no_memory;
+use crate::startup::text_or_no_memory;
 use crate::stop::{FaultText, TurnFaultText};
 use crate::watch::{Watch, is_unread};
 use dns_connections::{Found, Sockets, Stopped, Stream};
@@ -23,20 +23,20 @@ const LISTENER: Token = Token(usize::MAX);
 
 const OUTPUT: Token = Token(usize::MAX - 1);
 
-// How many closed connections are heard out at most.
-const MOST_HEARD: usize = 256;
+// How many closed connections linger at most.
+const MOST_LINGERING: usize = 256;
 
 // Times in milliseconds.
 
 // The pause after a wait that failed.
 const PAUSE: u64 = 100;
 
-// How long the input of a connection is read and discarded after its output ended: closing a socket
-// before all of its input is read resets the connection, and the peer loses the replies that have
-// not reached it yet (RFC 2525 2.17).
-const HEARING: u64 = 1_000;
+// How long a connection lingers: after its output ended, its input is read and discarded. Closing a
+// socket before all of its input is read resets the connection, and the peer loses the replies that
+// have not reached it yet (RFC 2525 2.17).
+const LINGER: u64 = 1_000;
 
-// How often the closed connections are read.
+// How often the lingering connections are read.
 const LOOK: u64 = 100;
 
 /// A connection over TCP.
@@ -48,16 +48,13 @@ pub struct Connection {
 }
 
 impl Connection {
-    // Why a call failed, unless it was only interrupted.
-    fn stop(&mut self, error: &io::Error) -> Option<Stopped> {
-        match error.kind() {
-            ErrorKind::Interrupted => None,
-            ErrorKind::WouldBlock => Some(Stopped::WouldBlock),
-            _ => {
-                self.is_over = true;
-                Some(Stopped::Failed)
-            }
+    // Why a call failed that was not interrupted.
+    fn stop(&mut self, error: &io::Error) -> Stopped {
+        if error.kind() == ErrorKind::WouldBlock {
+            return Stopped::WouldBlock;
         }
+        self.is_over = true;
+        Stopped::Failed
     }
 }
 
@@ -71,11 +68,8 @@ impl Stream for Connection {
                     self.is_over |= count == 0;
                     return Ok(count);
                 }
-                Err(error) => {
-                    if let Some(stopped) = self.stop(&error) {
-                        return Err(stopped);
-                    }
-                }
+                Err(error) if error.kind() == ErrorKind::Interrupted => {}
+                Err(error) => return Err(self.stop(&error)),
             }
         }
         Err(Stopped::Failed)
@@ -85,29 +79,27 @@ impl Stream for Connection {
         'calls: for _ in 0..u64::MAX {
             match self.stream.write(octets) {
                 Ok(count) => return Ok(count),
-                Err(error) => {
-                    if let Some(stopped) = self.stop(&error) {
-                        return Err(stopped);
-                    }
-                }
+                Err(error) if error.kind() == ErrorKind::Interrupted => {}
+                Err(error) => return Err(self.stop(&error)),
             }
         }
         Err(Stopped::Failed)
     }
 }
 
-// A closed connection whose output has ended, until it is dropped.
+// A connection whose output has ended, until it is dropped.
 #[derive(Drop)]
-struct Heard {
+struct Lingering {
     stream: TcpStream,
+    // When it is dropped.
     until: Duration,
 }
 
-impl Heard {
+impl Lingering {
     // Reads and discards what has arrived. Returns whether more may come.
-    fn hear(&mut self, room: &mut [u8]) -> bool {
+    fn discard(&mut self, buffer: &mut [u8]) -> bool {
         'calls: for _ in 0..16 {
-            match self.stream.read(room) {
+            match self.stream.read(buffer) {
                 Ok(0) => return false,
                 Ok(_) => {}
                 Err(error) => return error.kind() == ErrorKind::WouldBlock,
@@ -117,42 +109,42 @@ impl Heard {
     }
 }
 
-// The closed connections whose peers are heard out, the oldest first.
+// The lingering connections, the oldest first.
 #[derive(Drop)]
-struct Hearing {
-    heard: VecDeque<Heard>,
-    // The next time when they are read.
-    looks: Duration,
+struct LingeringQueue {
+    queue: VecDeque<Lingering>,
+    // When they are read next.
+    next_look: Duration,
 }
 
-impl Hearing {
+impl LingeringQueue {
     // Reads each connection once, if that is due, and drops those whose time is over.
-    fn hear(&mut self, now: Duration) {
-        if now < self.looks {
+    fn look(&mut self, now: Duration) {
+        if now < self.next_look {
             return;
         }
-        self.looks = now.saturating_add(Duration::from_millis(LOOK));
-        let mut room = [0; 4096];
-        'heard: for _ in 0..self.heard.len() {
-            if let Some(mut heard) = self.heard.pop_front() {
-                if now < heard.until && heard.hear(&mut room) {
-                    let _ = self.heard.push_back(heard);
+        self.next_look = now.saturating_add(Duration::from_millis(LOOK));
+        let mut buffer = [0; 4096];
+        'queue: for _ in 0..self.queue.len() {
+            if let Some(mut oldest) = self.queue.pop_front() {
+                if now < oldest.until && oldest.discard(&mut buffer) {
+                    let _ = self.queue.push_back(oldest);
                 }
             }
         }
     }
 
     fn add(&mut self, stream: TcpStream, now: Duration) {
-        if self.heard.len() >= MOST_HEARD {
-            let _oldest = self.heard.pop_front();
+        if self.queue.len() >= MOST_LINGERING {
+            let _oldest = self.queue.pop_front();
         }
-        let until = now.saturating_add(Duration::from_millis(HEARING));
-        let _ = self.heard.push_back(Heard { stream, until });
+        let until = now.saturating_add(Duration::from_millis(LINGER));
+        let _ = self.queue.push_back(Lingering { stream, until });
     }
 
-    // How long a wait may last that may last so long without these connections.
-    fn patience(&self, most: Option<Duration>) -> Option<Duration> {
-        if self.heard.is_empty() {
+    // How long a wait may last, if without these connections it may last `most`.
+    fn longest_wait(&self, most: Option<Duration>) -> Option<Duration> {
+        if self.queue.is_empty() {
             return most;
         }
         let look = Duration::from_millis(LOOK);
@@ -162,8 +154,8 @@ impl Hearing {
 
 /// A listening TCP socket and its connections, over epoll. Diagnostics go to standard error.
 ///
-/// The peer of a connection that is closed before its input ended is heard out for at most one
-/// second, while others are served.
+/// A connection that is closed before its input ended lingers for at most one second, while others
+/// are served: its input is read and discarded.
 #[derive(Drop)]
 pub struct Epoll<'a, R> {
     poll: Poll,
@@ -171,7 +163,7 @@ pub struct Epoll<'a, R> {
     found: Vec<Found>,
     listener: TcpListener,
     connected: usize,
-    hearing: Hearing,
+    lingering: LingeringQueue,
     rt: &'a R,
     now: Duration,
     are_said: bool,
@@ -187,10 +179,8 @@ impl<'a, R: Net + Clock + AllocGlobal> Epoll<'a, R> {
     ) -> Result<Epoll<'a, R>, FaultText>
         ensures { IfErr result (λ fault. (fault ≡ FaultText.NotBound) ⊎ (fault ≡ FaultText.NoMemory)) }
     {
-        match Epoll::made(rt, listener, watch) {
-            Ok(sockets) => Ok(sockets),
-            Err(error) => Err(word_or_no_memory(&error, FaultText::NotBound)),
-        }
+        let made = Epoll::made(rt, listener, watch);
+        made.map_err(|error| text_or_no_memory(&error, FaultText::NotBound))
     }
 
     fn made(
@@ -217,9 +207,9 @@ impl<'a, R: Net + Clock + AllocGlobal> Epoll<'a, R> {
             found: Vec::with_capacity(rt.alloc(), MOST_EVENTS)?,
             listener,
             connected: 0,
-            hearing: Hearing {
-                heard: VecDeque::with_capacity(rt.alloc(), MOST_HEARD)?,
-                looks: Duration::ZERO,
+            lingering: LingeringQueue {
+                queue: VecDeque::with_capacity(rt.alloc(), MOST_LINGERING)?,
+                next_look: Duration::ZERO,
             },
             rt,
             now: rt.monotonic()?,
@@ -229,14 +219,14 @@ impl<'a, R: Net + Clock + AllocGlobal> Epoll<'a, R> {
 }
 
 impl<R: Clock> Epoll<'_, R> {
-    /// Hears out the closed connections, for at most one second. Returns whether every diagnostic
+    /// Lets the closed connections linger, for at most one second. Returns whether every diagnostic
     /// was written.
     pub fn finish(self) -> bool {
         let mut sockets = self;
-        'looks: for _ in 0..=HEARING / LOOK {
+        'looks: for _ in 0..=LINGER / LOOK {
             let now = sockets.time();
-            sockets.hearing.hear(now);
-            if sockets.hearing.heard.is_empty() {
+            sockets.lingering.look(now);
+            if sockets.lingering.queue.is_empty() {
                 break;
             }
             thread::sleep(sockets.rt, Duration::from_millis(LOOK));
@@ -256,10 +246,10 @@ impl<R: Clock> Epoll<'_, R> {
 
 impl<R: Clock + Eprint> Epoll<'_, R> {
     // Writes a diagnostic, unless an earlier one could not be written.
-    fn say(&mut self, word: TurnFaultText)
+    fn say(&mut self, text: TurnFaultText)
         ensures { self.new.connected ≡ self.old.connected }
     {
-        self.are_said = self.are_said && self.rt.eprintln(word).is_ok();
+        self.are_said = self.are_said && self.rt.eprintln(text).is_ok();
     }
 }
 
@@ -303,8 +293,8 @@ impl<R: Clock + Eprint> Sockets for Epoll<'_, R> {
 
     fn wait(&mut self, most: Option<Duration>) {
         let now = self.time();
-        self.hearing.hear(now);
-        let most = self.hearing.patience(most);
+        self.lingering.look(now);
+        let most = self.lingering.longest_wait(most);
         let mut is_done = self.poll.poll(&mut self.events, most).is_ok();
         // A signal ends a wait early, and without events.
         if is_done && self.events.is_empty() {
@@ -322,9 +312,7 @@ impl<R: Clock + Eprint> Sockets for Epoll<'_, R> {
     }
 
     fn accept(&mut self) -> Result<Connection, Stopped> {
-        let Some(connected) = self.connected.checked_add(1) else {
-            return Err(Stopped::Failed);
-        };
+        let connected = self.connected.checked_add(1).ok_or(Stopped::Failed)?;
         let stream = accept_from(&self.listener)?;
         self.connected = connected;
         Ok(Connection {
@@ -336,10 +324,8 @@ impl<R: Clock + Eprint> Sockets for Epoll<'_, R> {
     fn watch(&mut self, connection: &mut Connection, key: usize) -> Result<(), Stopped> {
         let both = Interest::READABLE | Interest::WRITABLE;
         let registry = self.poll.registry();
-        match registry.register(&mut connection.stream, Token(key), both) {
-            Ok(()) => Ok(()),
-            Err(_) => Err(Stopped::Failed),
-        }
+        let registered = registry.register(&mut connection.stream, Token(key), both);
+        registered.ok().ok_or(Stopped::Failed)
     }
 
     fn close(&mut self, _zone: &Zone, _most: u64, connection: Connection) {
@@ -353,7 +339,7 @@ impl<R: Clock + Eprint> Sockets for Epoll<'_, R> {
         }
         if self.poll.registry().deregister(&mut stream).is_ok() {
             let now = self.time();
-            self.hearing.add(stream, now);
+            self.lingering.add(stream, now);
         }
     }
 

@@ -29,7 +29,7 @@ pub use listen::{Ending, given_listener, given_socket, listener_at, serve_datagr
 pub use load::{LoadFault, Refusal, load_zone, write_refusal};
 pub use message::run_message;
 pub use nonblocking::Nonblocking;
-pub use once::{LineBuffers, run_once, run_once_in};
+pub use once::run_once;
 pub use socket::Socket;
 pub use startup::{end, finish, given_words, open_file, refuse, say, say_serving};
 pub use stop::{

@@ -39,10 +39,9 @@ where
     R: Net<Listener = TcpListener, Stream = TcpStream>,
     ensures { IfErr result (λ fault. fault ≡ FaultText.NotBound) }
 {
-    match TcpListener::bind(rt, socket_address(address)?) {
-        Ok(listener) => Ok(listener),
-        Err(_) => Err(FaultText::NotBound),
-    }
+    TcpListener::bind(rt, socket_address(address)?)
+        .ok()
+        .ok_or(FaultText::NotBound)
 }
 
 /// The UDP socket that the process was given, which has received nothing here yet. Fails with
@@ -115,10 +114,8 @@ fn refuses_port_0(socket: &UdpSocket, ip: IpAddr) -> bool {
 fn copy_of<I: AsFd>(given: &I) -> Result<OwnedFd, FaultText>
     ensures { IfErr result (λ fault. fault ≡ FaultText.NotBound) }
 {
-    match given.as_fd().try_clone_to_owned() {
-        Ok(copy) => Ok(copy),
-        Err(_) => Err(FaultText::NotBound),
-    }
+    let copy = given.as_fd().try_clone_to_owned();
+    copy.ok().ok_or(FaultText::NotBound)
 }
 
 /// A device at which a server may be asked to end.
@@ -154,11 +151,11 @@ pub fn serve_datagrams<E: Eprint, D: Datagrams + Ending>(
           failures = D.count device.new;
         }) }
 {
-    let mut room = [0; 512];
+    let mut buffer = [0; 512];
     let mut builder = UdpBuilder::new();
     let mut are_said = true;
     'turns: for _ in 0..turns {
-        if let Err(fault) = udp_turn_in(zone, device, &mut room, &mut builder) {
+        if let Err(fault) = udp_turn_in(zone, device, &mut buffer, &mut builder) {
             if device.is_over() {
                 break;
             }
@@ -172,8 +169,5 @@ pub fn serve_datagrams<E: Eprint, D: Datagrams + Ending>(
 fn socket_address(address: &str) -> Result<SocketAddr, FaultText>
     ensures { IfErr result (λ fault. fault ≡ FaultText.NotBound) }
 {
-    match address.parse() {
-        Ok(address) => Ok(address),
-        Err(_) => Err(FaultText::NotBound),
-    }
+    address.parse().ok().ok_or(FaultText::NotBound)
 }

@@ -48,12 +48,12 @@ where
         Ok(line) => line,
         Err(stop) => return Err(stop),
     };
-    let room = octets.as_mut_slice();
-    let Some(len) = line.spell(room) else {
+    let spelled = octets.as_mut_slice();
+    let Some(len) = line.spell(spelled) else {
         sink.write_all(b"bad hex\n")?;
         return Ok(false);
     };
-    print_octets(alloc, &room[..len], sink)
+    print_octets(alloc, &spelled[..len], sink)
 }
 
 fn first_line<R: Read>(alloc: Global, source: &mut Tally<R>) -> Result<Line, Stop>

@@ -52,68 +52,13 @@ pub fn run_once<R: Read, W: Write>(
     ensures unread { result ≡ Err Stop.Memory → source.new ≡ source.old }
     ensures unwritten { result ≡ Err Stop.Memory → sink.new ≡ sink.old }
 {
-    let room = LineBuffers::new(alloc)?;
-    run_once_in(zone, limit, source, sink, room)
-}
-
-/// The buffers of a run: for the octets that are read at once, for the unfinished line, for the
-/// reply and its digits, and the builders of replies.
-#[derive(Drop)]
-pub struct LineBuffers {
-    piece: Vec<u8>,
-    line: Line,
-    room: Vec<u8>,
-    builders: ReplyBuilders,
-    ghost piece_octets: { vec_len piece ≡ PIECE },
-    ghost fresh: { line ≡ no_line },
-    ghost room_octets: { vec_len room ≡ MOST_ANSWER },
-}
-
-impl LineBuffers {
-    /// New buffers, about 460,000 octets in all. Fails only if allocation fails.
-    pub fn new(alloc: Global) -> Result<LineBuffers, AllocError> {
-        Ok(LineBuffers {
-            piece: vec![in alloc; 0; PIECE]?,
-            line: Line::new(alloc)?,
-            room: vec![in alloc; 0; MOST_ANSWER]?,
-            builders: ReplyBuilders {
-                udp: UdpBuilder::new(),
-                tcp: Box::new(alloc, TcpBuilder::new())?,
-            },
-        })
-    }
-}
-
-/// Answers lines as `run_once` does, in the caller's buffers. Allocates no memory, so the run
-/// never stops with `Memory`.
-pub fn run_once_in<R: Read, W: Write>(
-    zone: &Zone,
-    limit: dns_answer::Limit,
-    source: &mut Tally<R>,
-    sink: &mut Tally<W>,
-    room: LineBuffers,
-) -> Outcome
-    requires source { source.old.failures < 2 ^ 64 - 1 }
-    requires sink { sink.old.failures < 2 ^ 64 - 1 }
-    ensures source { source.new.failures ≡ source_failures_after source.old.failures result }
-    ensures sink { sink.new.failures ≡ sink_failures_after sink.old.failures result }
-    ensures lines { LinesAnswered (reply_within limit zone.now)
-        (session R.remaining W.contents source.old source.new sink.old sink.new) result }
-    ensures memory { IfErr result (λ stop. stop ≢ Stop.Memory) }
-{
-    let LineBuffers {
-        piece,
-        line,
-        room,
-        builders,
-    } = room;
-    let mut piece = piece;
+    let mut piece = vec![in alloc; 0; PIECE]?;
     let mut exchange = Exchange {
         zone,
         limit,
-        line,
-        room,
-        builders,
+        line: Line::new(alloc)?,
+        scratch: vec![in alloc; 0; MOST_ANSWER]?,
+        builders: ReplyBuilders::new(alloc)?,
         are_all_messages: true,
     };
     exchange.run(piece.as_mut_slice(), source, sink)
@@ -127,10 +72,10 @@ struct Exchange<'z> {
     // The unfinished line.
     line: Line,
     // Holds a line's octets, and then the digits of its reply.
-    room: Vec<u8>,
+    scratch: Vec<u8>,
     builders: ReplyBuilders,
     are_all_messages: bool,
-    ghost room_octets: { vec_len room ≡ MOST_ANSWER },
+    ghost scratch_octets: { vec_len scratch ≡ MOST_ANSWER },
 }
 
 impl<'z> Exchange<'z> {
@@ -204,8 +149,8 @@ impl<'z> Exchange<'z> {
             && is_some (kept_message self.old.line))) }
         ensures task { OnOk result (reply_of self.new ≡ reply_of self.old) }
     {
-        let (room, builders) = (self.room.as_mut_slice(), &mut self.builders);
-        let is_message = answer(self.zone, self.limit, builders, &self.line, room, sink)?;
+        let (scratch, builders) = (self.scratch.as_mut_slice(), &mut self.builders);
+        let is_message = answer(self.zone, self.limit, builders, &self.line, scratch, sink)?;
         self.are_all_messages = self.are_all_messages && is_message;
         self.line.clear();
         Ok(())
@@ -219,70 +164,79 @@ struct ReplyBuilders {
     tcp: Box<TcpBuilder>,
 }
 
-// Answers a line, and returns whether the line is a message. `room` is for the line's octets, then
-// for the digits of the reply.
+impl ReplyBuilders {
+    fn new(alloc: Global) -> Result<ReplyBuilders, AllocError> {
+        Ok(ReplyBuilders {
+            udp: UdpBuilder::new(),
+            tcp: Box::new(alloc, TcpBuilder::new())?,
+        })
+    }
+}
+
+// Answers a line, and returns whether the line is a message. `scratch` is for the line's octets,
+// then for the digits of the reply.
 fn answer<W: Write>(
     zone: &Zone,
     limit: dns_answer::Limit,
     builders: &mut ReplyBuilders,
     line: &Line,
-    room: &mut [u8],
+    scratch: &mut [u8],
     sink: &mut Tally<W>,
 ) -> Result<bool, SinkFailed>
-    requires room { length room.old ≡ MOST_ANSWER }
+    requires room { length scratch.old ≡ MOST_ANSWER }
     requires few { sink.old.failures < 2 ^ 64 - 1 }
     ensures answered { Writes W.contents sink.old sink.new result
         (message_answer (reply_within limit zone.now) (kept_message line.now)) }
     ensures message { IfOk result (λ message. message ≡ is_some (kept_message line.now)) }
 {
-    let Some(len) = line.spell(&mut room[..MOST_LINE_OCTETS]) else {
+    let Some(len) = line.spell(&mut scratch[..MOST_LINE_OCTETS]) else {
         sink.write_all(b"bad hex\n")?;
         return Ok(false);
     };
-    let (mut steps, datagram) = (Steps::new(zone), &room[..len]);
+    let (mut steps, datagram) = (Steps::new(zone), &scratch[..len]);
     match limit {
         dns_answer::Limit::Udp => {
             let reply = respond_in(&mut steps, datagram, &mut builders.udp);
-            write_reply(reply, room, sink)?;
+            write_reply(reply, scratch, sink)?;
         }
         dns_answer::Limit::Tcp => {
             let reply = respond_in(&mut steps, datagram, &mut builders.tcp);
-            write_reply(reply, room, sink)?;
+            write_reply(reply, scratch, sink)?;
         }
     }
     Ok(true)
 }
 
-// Writes the line for a reply, or `none` if there is no reply. `room` is for the digits.
+// Writes the line for a reply, or `none` if there is no reply. `digits` has room for the digits.
 fn write_reply<W: Write>(
     reply: Option<&[u8]>,
-    room: &mut [u8],
+    digits: &mut [u8],
     sink: &mut Tally<W>,
 ) -> Result<(), SinkFailed>
-    requires room { IfSome reply (λ o. 2 * length o.now < length room.old) }
+    requires room { IfSome reply (λ o. 2 * length o.now < length digits.old) }
     requires few { sink.old.failures < 2 ^ 64 - 1 }
     ensures { Writes W.contents sink.old sink.new result (reply_line (option_copied reply.entry)) }
 {
     match reply {
-        Some(reply) => write_digits(reply, room, sink),
+        Some(reply) => write_digits(reply, digits, sink),
         None => sink.write_all(b"none\n"),
     }
 }
 
-// Writes a reply as a line of digits. `room` is for the digits.
+// Writes a reply as a line of digits.
 fn write_digits<W: Write>(
     reply: &[u8],
-    room: &mut [u8],
+    digits: &mut [u8],
     sink: &mut Tally<W>,
 ) -> Result<(), SinkFailed>
-    requires room { 2 * length reply.now < length room.old }
+    requires room { 2 * length reply.now < length digits.old }
     requires few { sink.old.failures < 2 ^ 64 - 1 }
     ensures { Writes W.contents sink.old sink.new result (reply_line (Some reply.now)) }
 {
     let end = 2 * reply.len();
-    if hex::encode_to_slice(reply, &mut room[..end]).is_err() {
+    if hex::encode_to_slice(reply, &mut digits[..end]).is_err() {
         unreachable!();
     }
-    room[end] = b'\n';
-    sink.write_all(&room[..end + 1])
+    digits[end] = b'\n';
+    sink.write_all(&digits[..end + 1])
 }

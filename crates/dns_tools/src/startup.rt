@@ -23,7 +23,7 @@ pub fn given_words<R: Env + AllocGlobal>(rt: &R) -> Result<Vec<String>, FaultTex
     ensures { IfErr result (λ fault. (fault ≡ FaultText.Usage) ⊎ (fault ≡ FaultText.NoMemory)) }
 {
     let given = env::args(&(Arguments { rt }, rt.alloc()));
-    let given = given.map_err(|error| word_or_no_memory(&error, FaultText::Usage))?;
+    let given = given.map_err(|error| text_or_no_memory(&error, FaultText::Usage))?;
     let mut words = Vec::new(rt.alloc());
     for word in given {
         words.push(word)?;
@@ -60,10 +60,11 @@ pub fn open_file<R: Files>(rt: &R, path: &str) -> Result<R::File, FaultText>
     ensures { IfErr result (λ fault. (fault ≡ FaultText.SourceFailed)
         ⊎ (fault ≡ FaultText.NoMemory)) }
 {
-    fs::open(rt, path).map_err(|error| word_or_no_memory(&error, FaultText::SourceFailed))
+    fs::open(rt, path).map_err(|error| text_or_no_memory(&error, FaultText::SourceFailed))
 }
 
-/// Flushes the buffer of a report if its run finished, and returns the device under the buffer.
+/// Flushes the buffer of a report if its run finished. Returns the outcome of the run, or `Sink` if
+/// flushing failed, and the device under the buffer.
 ///
 /// The buffer is taken apart, because dropping it would write once more after a failure.
 pub fn finish<W: Write + Drop>(outcome: Outcome, output: BufWriter<W>) -> (Outcome, W)
@@ -96,8 +97,7 @@ pub fn refuse<R: Clock + AllocGlobal, E: Print>(
     ensures fault { IfErr result (λ fault. fault ≡ FaultText.NoMemory) }
 {
     let mut sink = Tally::new(buffered_stream(rt, errors)?);
-    let written = write_refusal(refusal, &mut sink);
-    let outcome = match written {
+    let outcome = match write_refusal(refusal, &mut sink) {
         Ok(()) => Ok(false),
         Err(failed) => Err(failed.into()),
     };
@@ -112,8 +112,7 @@ pub fn say_serving<R: Clock + Print + AllocGlobal>(rt: &R, zone: &Zone) -> Resul
         (λ fault. (fault ≡ FaultText.SinkFailed) ⊎ (fault ≡ FaultText.NoMemory)) }
 {
     let mut sink = Tally::new(buffered_stream(rt, rt)?);
-    let written = write_serving(zone, &mut sink);
-    let outcome = match written {
+    let outcome = match write_serving(zone, &mut sink) {
         Ok(()) => Ok(true),
         Err(failed) => Err(failed.into()),
     };
@@ -129,10 +128,9 @@ fn buffered_stream<'a, R: Clock + AllocGlobal, P: Print>(
 ) -> Result<BufWriter<Nonblocking<'a, io::Printer<'a, P>, R>>, FaultText>
     ensures { IfErr result (λ fault. fault ≡ FaultText.NoMemory) }
 {
-    match BufWriter::new(rt.alloc(), Nonblocking::new(io::writer(stream), rt)) {
-        Ok(buffered) => Ok(buffered),
-        Err(_) => Err(FaultText::NoMemory),
-    }
+    BufWriter::new(rt.alloc(), Nonblocking::new(io::writer(stream), rt))
+        .ok()
+        .ok_or(FaultText::NoMemory)
 }
 
 /// The exit status of a program: the given one, or, if the program stopped early, 2, after its
@@ -143,26 +141,26 @@ pub fn end(rt: &impl Eprint, status: Result<u8, FaultText>) -> u8
 {
     match status {
         Ok(status) => status,
-        Err(word) => say(rt, word),
+        Err(text) => say(rt, text),
     }
 }
 
 /// Writes a diagnostic to standard error, and returns the exit status for it, 2, even if it can't
 /// be written.
-pub fn say(rt: &impl Eprint, word: FaultText) -> u8
+pub fn say(rt: &impl Eprint, text: FaultText) -> u8
     ensures { result ≡ 2 }
 {
-    let _written = rt.eprintln(word);
+    let _written = rt.eprintln(text);
     FAULT_STATUS
 }
 
-/// The diagnostic for a failed call: `no memory` if memory was missing, else `word`.
-pub(crate) fn word_or_no_memory(error: &Error, word: FaultText) -> FaultText
-    ensures { (result ≡ word) ⊎ (result ≡ FaultText.NoMemory) }
+/// The diagnostic for a failed call: `no memory` if memory was missing, else `text`.
+pub(crate) fn text_or_no_memory(error: &Error, text: FaultText) -> FaultText
+    ensures { (result ≡ text) ⊎ (result ≡ FaultText.NoMemory) }
 {
     if error.kind() == ErrorKind::OutOfMemory {
         FaultText::NoMemory
     } else {
-        word
+        text
     }
 }

@@ -4,7 +4,7 @@ ghost use Rattle.dns_tools.specs.declared.stop.Stop.TheVariants.{Memory};
 ghost use Rattle.dns_tools.specs.declared.stop.FaultText.TheVariants.{BadOrigin, NoMemory};
 ghost use Rattle.clap.specs.Values.{kind_of};
 ghost use Rattle.dns_tools.specs.Status.{status_of, end_of, status_of_turns};
-ghost use Rattle.dns_tools.specs.Status.{word_of, word_of_kind, word_of_turn, word_of_stream};
+ghost use Rattle.dns_tools.specs.Status.{fault_text, text_of_kind, text_of_turn, text_of_stream};
 
 use clap::error::ErrorKind;
 use dns_name::NameFault;
@@ -31,19 +31,6 @@ impl From<AllocError> for Stop {
     }
 }
 
-impl Stop {
-    /// The diagnostic of a program whose run stopped for this reason.
-    fn word(self) -> FaultText
-        ensures { result ≡ word_of self }
-    {
-        match self {
-            Stop::Memory => FaultText::NoMemory,
-            Stop::Source => FaultText::SourceFailed,
-            Stop::Sink => FaultText::SinkFailed,
-        }
-    }
-}
-
 /// The result of a run, or why it stopped early.
 pub type Outcome = Result<bool, Stop>;
 
@@ -65,7 +52,7 @@ pub fn end_of(outcome: Outcome) -> Result<u8, FaultText>
 {
     match outcome {
         Ok(_) => Ok(exit_status(&outcome)),
-        Err(stop) => Err(stop.word()),
+        Err(stop) => Err(FaultText::from(stop)),
     }
 }
 
@@ -105,24 +92,29 @@ pub enum FaultText {
 pub const FAULT_STATUS: u8 = 2;
 
 impl From<AllocError> for FaultText {
-    ghost from_gives = { λ _ word. word ≡ NoMemory };
+    ghost from_gives = { λ _ text. text ≡ NoMemory };
 
     fn from(_error: AllocError) -> FaultText {
         FaultText::NoMemory
     }
 }
 
+/// The diagnostic of a program whose run stopped for this reason.
 impl From<Stop> for FaultText {
-    ghost from_gives = { λ stop word. word ≡ word_of stop };
+    ghost from_gives = { λ stop text. text ≡ fault_text stop };
 
     fn from(stop: Stop) -> FaultText {
-        stop.word()
+        match stop {
+            Stop::Memory => FaultText::NoMemory,
+            Stop::Source => FaultText::SourceFailed,
+            Stop::Sink => FaultText::SinkFailed,
+        }
     }
 }
 
 /// Whatever the fault of ORIGIN, the diagnostic is `bad origin`.
 impl From<NameFault> for FaultText {
-    ghost from_gives = { λ _ word. word ≡ BadOrigin };
+    ghost from_gives = { λ _ text. text ≡ BadOrigin };
 
     fn from(_fault: NameFault) -> FaultText {
         FaultText::BadOrigin
@@ -131,7 +123,7 @@ impl From<NameFault> for FaultText {
 
 /// The diagnostic is `no memory` if `clap` could not allocate, and otherwise `usage`.
 impl From<clap::Error> for FaultText {
-    ghost from_gives = { λ error word. word ≡ word_of_kind (kind_of error) };
+    ghost from_gives = { λ error text. text ≡ text_of_kind (kind_of error) };
 
     fn from(error: clap::Error) -> FaultText {
         match error.kind() {
@@ -142,7 +134,7 @@ impl From<clap::Error> for FaultText {
 }
 
 impl<T: Drop> From<AllocFailed<T>> for FaultText {
-    ghost from_gives = { λ _ word. word ≡ NoMemory };
+    ghost from_gives = { λ _ text. text ≡ NoMemory };
 
     fn from(_refused: AllocFailed<T>) -> FaultText {
         FaultText::NoMemory
@@ -173,7 +165,7 @@ pub enum TurnFaultText {
 }
 
 impl From<TurnFault> for TurnFaultText {
-    ghost from_gives = { λ fault word. word ≡ word_of_turn fault };
+    ghost from_gives = { λ fault text. text ≡ text_of_turn fault };
 
     fn from(fault: TurnFault) -> TurnFaultText {
         match fault {
@@ -184,6 +176,8 @@ impl From<TurnFault> for TurnFaultText {
 }
 
 impl From<StreamFault> for TurnFaultText {
+    ghost from_gives = { λ fault text. text ≡ text_of_stream fault };
+
     fn from(fault: StreamFault) -> TurnFaultText {
         match fault {
             StreamFault::SourceFailed => TurnFaultText::StreamNotRead,
@@ -191,6 +185,4 @@ impl From<StreamFault> for TurnFaultText {
             StreamFault::Cut => TurnFaultText::StreamCut,
         }
     }
-
-    ghost from_gives = { λ fault word. word ≡ word_of_stream fault };
 }

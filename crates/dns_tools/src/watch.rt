@@ -31,9 +31,7 @@ impl Watch {
     pub fn new<R: Net + AllocGlobal, O: AsRawFd>(rt: &R, output: &O) -> Result<Watch, FaultText>
         ensures { IfErr result (λ fault. (fault ≡ FaultText.NotBound) ⊎ (fault ≡ FaultText.NoMemory)) }
     {
-        let Ok(poll) = Poll::new(rt) else {
-            return Err(FaultText::NotBound);
-        };
+        let poll = Poll::new(rt).ok().ok_or(FaultText::NotBound)?;
         let watch = Watch {
             poll,
             events: Events::with_capacity(rt.alloc(), 1)?,

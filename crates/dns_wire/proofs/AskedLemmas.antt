@@ -1,6 +1,6 @@
--- The places of the suffixes of the question's name do not depend on what follows the name; the
+-- The offsets of the suffixes of the question's name do not depend on what follows the name; the
 -- distance of each from the end of the name is the suffix's length.
-use Rattle.dns_wire.proofs.Common.{◌≡◌, ℕ, zero, suc, ◌+◌, ◌-◌, ◌<◌, ◌≤◌, true, ◌⊎◌, inl, inr, List, [], ◌∷◌, ◌++◌, length, take, drop, refl, sym, ap, ◌∙◌, subst, arith, append_assoc, length-append, take-append-drop, take_at, replicate, ap₂, Option, None, Some, IfSome, and_parts, list_all, Octets, DomainName, wire, is_name, is_label, drop-drop, drop-take, take-append-le, length-take, length-drop, Stands, run_written, labels_of_spelled, IsWireForm-wire, labels_of, IsWireForm, Kept, IsKept, SpellsSuffix, IsSharedAt, NoneSpelled, AfterLabel, name_before, IsAsked, asked_places, NotAsked, IsLastOf, new_places}
+use Rattle.dns_wire.proofs.Common.{◌≡◌, ℕ, zero, suc, ◌+◌, ◌-◌, ◌<◌, ◌≤◌, true, ◌⊎◌, inl, inr, List, [], ◌∷◌, ◌++◌, length, take, drop, refl, sym, ap, ◌∙◌, subst, arith, append_assoc, length-append, take-append-drop, take_at, replicate, ap₂, Option, None, Some, IfSome, and_parts, list_all, Octets, DomainName, wire, is_name, is_label, drop-drop, drop-take, take-append-le, length-take, length-drop, Stands, run_written, labels_of_spelled, IsWireForm-wire, labels_of, IsWireForm, Kept, IsKept, SpellsSuffix, IsSharedAt, NoneSpelled, AfterLabel, name_before, IsAsked, asked_offsets, NotAsked, IsLastOf, new_offsets}
 use Rattle.dns_wire.proofs.SuffixLemmas.{one_run, next_label, kept-root}
 use Rattle.dns_wire.proofs.NameWritten.{kept_left, kept_right, kept_split, kept_sound, kept_complete, NewSuffix, is_name-suffix}
 use Rattle.dns_spec.proofs.DomainNames.WireNames.{wire_split, longer_wire}
@@ -34,35 +34,37 @@ is_asked_more {b} {b'} {a} o asked e same =
     grind (arith, is_asked_same, take-append-le, length-append)
 
 pub kept_same : (head : Octets → ℕ) (b b' : Octets) (a a' : ℕ) (ks ks' : List Kept) → take a b'
-    ≡ take a b → a' ≡ a → ks' ≡ ks → asked_places head b' a' ++ ks' ≡ asked_places head b a ++ ks
-unfolding asked_places
-kept_same head b b' a a' ks ks' e same places = grind (arith, name_same)
+    ≡ take a b → a' ≡ a → ks' ≡ ks → asked_offsets head b' a' ++ ks' ≡ asked_offsets head b a ++ ks
+unfolding asked_offsets
+kept_same head b b' a a' ks ks' e same offsets = grind (arith, name_same)
 
--- appending octets leaves all places unchanged
+-- appending octets leaves all offsets unchanged
 pub kept_more : (head : Octets → ℕ) (b b' : Octets) (a a' : ℕ) (ks ks' : List Kept) (o : Octets)
     → IsAsked b a
-    → b' ≡ b ++ o → a' ≡ a → ks' ≡ ks → asked_places head b' a' ++ ks' ≡ asked_places head b a ++ ks
-kept_more head b b' a a' ks ks' o asked e same places = grind (arith, kept_same, take-append-le)
+    → b' ≡ b ++ o → a' ≡ a → ks' ≡ ks → asked_offsets head b' a' ++ ks' ≡ asked_offsets head b a
+    ++ ks
+kept_more head b b' a a' ks ks' o asked e same offsets = grind (arith, kept_same, take-append-le)
 
 -- without a question there are no labels
 no_labels : labels_of [] ≡ []
 unfolding labels_of
 no_labels = refl
 
-pub asked_nothing : (head : Octets → ℕ) (b : Octets) → asked_places head b 12 ≡ []
-unfolding asked_places
-asked_nothing head b = ap (λ n. new_places head [] n 12) no_labels ∙ kept-root head [] 12
+pub asked_nothing : (head : Octets → ℕ) (b : Octets) → asked_offsets head b 12 ≡ []
+unfolding asked_offsets
+asked_nothing head b = ap (λ n. new_offsets head [] n 12) no_labels ∙ kept-root head [] 12
 
--- after room for a header, all suffixes of the name have their places
+-- after room for a header, all suffixes of the name have their offsets
 pub name_whole : (n : DomainName) (b o : Octets) (a : ℕ)
     → b ≡ (replicate 12 0 ++ wire n) ++ o → a ≡ 12 + length (wire n) → name_before b a ≡ wire n
 name_whole n b o a e end = grind (arith, ap₂, take_at)
 
 pub asked_whole : (head : Octets → ℕ) {b : Octets} {a : ℕ} (n : DomainName) (o : Octets)
     → b ≡ (replicate 12 0 ++ wire n) ++ o
-    → is_name n ≡ true → a ≡ 12 + length (wire n) → asked_places head b a ≡ new_places head [] n 12
-unfolding asked_places
-asked_whole head {b} {a} n o e ok end = ap (λ m. new_places head [] m 12)
+    → is_name n ≡ true → a ≡ 12 + length (wire n) → asked_offsets head b a ≡ new_offsets head [] n
+    12
+unfolding asked_offsets
+asked_whole head {b} {a} n o e ok end = ap (λ m. new_offsets head [] m 12)
     (labels_of_spelled (name_before b a) n (name_whole n b o a e end) ok)
 
 pub is_asked_whole : {b : Octets} {a : ℕ} (n : DomainName) (o : Octets)
@@ -108,15 +110,15 @@ suffix_stands {b} {a} n front s asked some e is =
 asked_kept : (head : Octets → ℕ) (b : Octets) (a : ℕ) (front t : DomainName) (l : Octets) (p : ℕ)
     → labels_of (name_before b a) ≡ front ++ l ∷ t → length (wire (l ∷ t)) ≤ length (wire
     (labels_of (name_before b a))) → 12 + (length (wire (labels_of (name_before b a))) - length
-    (wire (l ∷ t))) ≡ p → p < 16384 → IsKept (asked_places head b a) p (head (wire (l ∷ t)))
-unfolding asked_places
+    (wire (l ∷ t))) ≡ p → p < 16384 → IsKept (asked_offsets head b a) p (head (wire (l ∷ t)))
+unfolding asked_offsets
 asked_kept head b a front t l p whole short at low =
     kept_complete head [] (labels_of (name_before b a)) front l t 12 p whole refl short at low
 
--- a suffix of the name, other than the root, is shared at the place where it begins
+-- a suffix of the name, other than the root, is shared at the offset where it begins
 pub asked_found : (head : Octets → ℕ) {b : Octets} {a : ℕ} (o : Octets)
     → IsAsked b a → 2 ≤ length o → length o ≤ length (name_before b a)
-    → IsLastOf (name_before b a) o → IsSharedAt (asked_places head b a) b o (a - length o)
+    → IsLastOf (name_before b a) o → IsSharedAt (asked_offsets head b a) b o (a - length o)
 asked_found head {b} {a} o asked two inside last =
     let some : 12 < a = omega (arith, two, inside, length-take (a - 12) (drop 12 b)) in
     let form = asked.name some in
@@ -124,7 +126,7 @@ asked_found head {b} {a} o asked two inside last =
     go some form l.0 l.1 l.2 l.3
   where
     go : 12 < a → IsWireForm (name_before b a) → (front s : DomainName) → labels_of (name_before
-        b a) ≡ front ++ s → o ≡ wire s → IsSharedAt (asked_places head b a) b o (a - length o)
+        b a) ≡ front ++ s → o ≡ wire s → IsSharedAt (asked_offsets head b a) b o (a - length o)
     go some form front [] whole is = absurd (omega (arith, two, ap length is))
     go some form front (l ∷ t) whole is =
         let there = suffix_stands
@@ -149,11 +151,11 @@ asked_found head {b} {a} o asked two inside last =
           );
         }
 
--- if no suffix has these octets as its wire form, none of the name's places spells them
+-- if no suffix has these octets as its wire form, none of the name's offsets spells them
 pub asked_none : {b : Octets} {a : ℕ} (o : Octets)
     → IsAsked b a → ((n front t : DomainName) (l : Octets) → name_before b a ≡ wire n
     → is_name n ≡ true → n ≡ front ++ l ∷ t → wire (l ∷ t) ≡ o → ⊥) → NotAsked b a o
-unfolding asked_places
+unfolding asked_offsets
 asked_none {b} {a} o asked never head p h kept there =
     go (a - 12) refl (kept_sound head [] (labels_of (name_before b a)) 12 p h kept)
   where
@@ -168,7 +170,7 @@ asked_none {b} {a} o asked never head p h kept there =
         let n = labels_of (name_before b a) in
         let suffix : DomainName = s.label ∷ s.labels in
         let stands = suffix_stands n s.front suffix asked some (sym form.wire_is) s.whole in
-        let place = s.place in
+        let place = s.offset in
         let long = s.wire_length in
         let all = stands.whole in
         let at : a - length (wire suffix) ≡ p = omega (arith, place, long, all, some) in
@@ -179,14 +181,14 @@ asked_none {b} {a} o asked never head p h kept there =
         never n s.front s.labels s.label
         (sym form.wire_is) form.is_name s.whole (ap wire (one_run run there.2) ∙ there.3)
 
--- octets that are spelled neither in the question's name nor at a kept place are spelled at no
--- place
+-- octets that are spelled neither in the question's name nor at a kept offset are spelled at no
+-- offset
 pub none_of_both : (head : Octets → ℕ) (b : Octets) (a h : ℕ) (ks : List Kept) (o : Octets)
-    → NotAsked b a o → NoneSpelled ks h b o → NoneSpelled (asked_places head b a ++ ks) h b o
+    → NotAsked b a o → NoneSpelled ks h b o → NoneSpelled (asked_offsets head b a ++ ks) h b o
 none_of_both head b a h ks o unasked none p kept there =
-    go (kept_split (asked_places head b a) ks p h kept)
+    go (kept_split (asked_offsets head b a) ks p h kept)
   where
-    go : IsKept (asked_places head b a) p h ⊎ IsKept ks p h → ⊥
+    go : IsKept (asked_offsets head b a) p h ⊎ IsKept ks p h → ⊥
     go (inl k) = unasked head p h k there
     go (inr k) = none p k there
 

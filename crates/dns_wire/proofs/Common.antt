@@ -10,7 +10,7 @@ pub use Rattle.dns_name.proofs.WireLemmas.{IsWireForm-wire, labels_of_spelled}
 pub use Rattle.dns_name.specs.WireForm.{IsWireForm}
 unfoldable pub use Rattle.dns_name.specs.WireForm.{labels_of}
 pub use Rattle.dns_rdata.proofs.PartLemmas.{more_are_cut}
-pub use Rattle.dns_rdata.specs.Parts.{Cuts, IsBorrowed, part_for}
+pub use Rattle.dns_rdata.specs.Parts.{Cuts, IsWirePart, part_for}
 pub use Rattle.dns_rdata.specs.TypeRows.{field_of, fields_in}
 pub use Rattle.dns_rdata.specs.declared.parts.Part.TheVariants.{Name}
 pub use Rattle.dns_spec.proofs.DataWords.WrittenData.{cut_into, field_again, field_whole, front_taken, name_part, octets_part}
@@ -26,15 +26,15 @@ pub use Rattle.dns_spec.proofs.Messages.NameReading.{name_at_computes, name_comp
 pub use Rattle.dns_spec.proofs.Messages.Sections.{data_read, field_own}
 pub use Rattle.dns_spec.proofs.Messages.Places.{Stands, label_parts, run_written}
 pub use Rattle.dns_wire.specs.Chains.{AreChains, chain_of, entry_at, kept_in, last_with}
-pub use Rattle.dns_wire.specs.PartialMessage.{PartialMessage, Grows, HasNames, IsPartial, IsWellKept, Writes, WritesAfter, counts_of, partial_of, item_of, known_places, names_so_far, empty_message, with_counted, with_octets, with_set}
-pub use Rattle.dns_wire.specs.Kept.{HasAt, HasPlace, IsKept, IsSharedAt, Kept, NoneSpelled, SpelledAt, SpelledFrom, SpellsSuffix}
+pub use Rattle.dns_wire.specs.PartialMessage.{PartialMessage, Grows, HasNames, IsPartial, IsWellKept, Writes, WritesAfter, counts_of, partial_of, item_of, known_offsets, names_so_far, empty_message, with_counted, with_octets, with_set}
+pub use Rattle.dns_wire.specs.Kept.{HasAt, HasOffset, IsKept, IsSharedAt, Kept, NoneSpelled, SpelledAt, SpelledFrom, SpellsSuffix}
 pub use Rattle.dns_wire.specs.Labels.{LabelAt, NoRunAt, PointerAt}
 pub use Rattle.dns_wire.specs.FieldReads.{IsFieldRead}
 pub use Rattle.dns_wire.specs.QueryForm.{NameEnds}
 pub use Rattle.dns_wire.specs.SuffixNumbers.{with_eights}
 unfoldable pub use Rattle.dns_wire.specs.SuffixNumbers.{octets_number, suffix_number}
 pub use Rattle.dns_wire.specs.Writing.{AfterLabel, Answers, Follows, Form, Holds, IsAsked, IsForm, IsLaid, IsLaidAs, IsLastOf, Layout, NotAsked, end_octets, form_again, name_before, name_laid, octets_laid, parts_laid, shown, tail_laid}
-unfoldable pub use Rattle.dns_wire.specs.Writing.{asked_places, front_size, new_places, pointed_place, records_laid}
+unfoldable pub use Rattle.dns_wire.specs.Writing.{asked_offsets, front_size, new_offsets, pointed_offset, records_laid}
 pub use Rattle.dns_wire.specs.declared.message.Counts.{Counts}
 pub use Rattle.dns_wire.specs.declared.message_builder.Section.{Section}
-pub use Rattle.dns_wire.specs.declared.suffix_offsets.KeptPlace.{KeptPlace}
+pub use Rattle.dns_wire.specs.declared.suffix_offsets.KeptOffset.{KeptOffset}

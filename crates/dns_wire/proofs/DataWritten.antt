@@ -1,5 +1,5 @@
 -- Data and records are written part by part.
-use Rattle.dns_wire.proofs.Common.{◌≡◌, ◌*◌, ◌+◌, ◌-◌, ◌≤◌, ◌∙◌, ℕ, Bool, true, false, List, [], ◌∷◌, ◌++◌, length, take, drop, refl, sym, ap, ap₂, subst, subst₂, arith, append_assoc, append-nil, length-append, take_at, drop_at, take-append-add, Octets, class_in, Part, octets, name, laid_parts, Placed, Laid, octets16, octets32, data_laid, data_by, Kept, suffix_number, Follows, Holds, Layout, octets_laid, name_laid, parts_laid, tail_laid, PartialMessage, known_places, Writes, zero, suc, length-drop, suc-mul, laid_front, nil_from_length, take-append-drop}
+use Rattle.dns_wire.proofs.Common.{◌≡◌, ◌*◌, ◌+◌, ◌-◌, ◌≤◌, ◌∙◌, ℕ, Bool, true, false, List, [], ◌∷◌, ◌++◌, length, take, drop, refl, sym, ap, ap₂, subst, subst₂, arith, append_assoc, append-nil, length-append, take_at, drop_at, take-append-add, Octets, class_in, Part, octets, name, laid_parts, Placed, Laid, octets16, octets32, data_laid, data_by, Kept, suffix_number, Follows, Holds, Layout, octets_laid, name_laid, parts_laid, tail_laid, PartialMessage, known_offsets, Writes, zero, suc, length-drop, suc-mul, laid_front, nil_from_length, take-append-drop}
 use Rattle.dns_wire.proofs.AskedLemmas.{kept_same}
 use Rattle.dns_wire.proofs.NameWritten.{holds_octets}
 use Rattle.dns_wire.proofs.Steps.{grows_again, writes_as, writes_both, writes_past, both_laid}
@@ -84,7 +84,7 @@ patched_follows : {b after now : Octets} (x : Octets)
     → Follows b after → now ≡ take (length b + 8) after ++ x → Follows b now
 patched_follows {b} {after} x f set = grind (arith, take-append-add, append_assoc)
 
--- places that are right for the names in some octets are right for the same names in other octets
+-- offsets that are right for the names in some octets are right for the same names in other octets
 holds_again : {head : Octets → ℕ} {ms : List Placed} {b b' : Octets} {ks ks' : List Kept}
     → Holds head ms b ks → Holds head ms b' ks' → Holds head ms b' ks
 holds_again here there = grind arith
@@ -144,14 +144,14 @@ tail_written {head} {head'} {d} {d'} {d''} t ttl o now inside first next set =
       written = λ ms holds _.
           let one = first.written ms holds tt in
           let b' = d'.octets in
-          let ks' = known_places number d' in
+          let ks' = known_offsets number d' in
           let there : Holds number ms b' ks' = subst₂ (λ m x. Holds number m x ks')
           (append-nil ms) (sym one.written) (one.stands b refl holds) in
           let two = next.written ms there tt in
-          let place : length b' ≡ length b + 10 =
+          let offset : length b' ≡ length b + 10 =
           ap length one.written ∙ length-append b (numbers_of t ttl 0) in
           let l = parts_laid t o ms (length b + 10) in
-          let same : parts_laid t o ms (length b') ≡ l = ap (parts_laid t o ms) place in
+          let same : parts_laid t o ms (length b') ≡ l = ap (parts_laid t o ms) offset in
           let w = l.written in
           let numbers = numbers_of t ttl (length w) in
           let after : b'' ≡ b' ++ w = two.written ∙ ap (λ (l : Laid). b' ++ l.written) same in
@@ -163,8 +163,8 @@ tail_written {head} {head'} {d} {d'} {d''} t ttl o now inside first next set =
           let same_limit = first.grows.limit in
           let front : take d''.asked_end now ≡ take d''.asked_end b'' =
           take_patched d''.asked_end (length b + 8) b'' rest _ set
-          (omega (arith, inside, grown.asked)) (omega (arith, long, place)) in
-          let kept : known_places number (record d'' { octets = now }) ≡ known_places number d'' =
+          (omega (arith, inside, grown.asked)) (omega (arith, long, offset)) in
+          let kept : known_offsets number (record d'' { octets = now }) ≡ known_offsets number d'' =
           kept_same number _ _ _ _ _ _ front refl refl in
           record {
             exactly = grind (arith, length-append);
@@ -173,10 +173,10 @@ tail_written {head} {head'} {d} {d'} {d''} t ttl o now inside first next set =
                 let here : Holds number ms (x ++ numbers) ks' =
                 holds_again there (holds_octets numbers known) in
                 let all = two.stands
-                (x ++ numbers) (omega (arith, long_x, place, length-append x numbers)) here in
+                (x ++ numbers) (omega (arith, long_x, offset, length-append x numbers)) here in
                 subst₂
                 (λ z k. Holds number (ms ++ l.names) z k) (append_assoc x numbers w) (sym kept)
                 (subst (λ (l : Laid). Holds number (ms ++ l.names)
-                ((x ++ numbers) ++ l.written) (known_places number d'')) same all);
+                ((x ++ numbers) ++ l.written) (known_offsets number d'')) same all);
           };
     }

@@ -5,7 +5,7 @@ use Rattle.std.specs.Option.{option_map}
 use Rattle.std.specs.Prelude.{◌≤◌}
 
 -- The invariant of reading fields: the octets so far, followed by what the remaining fields spell
--- from place j on, are what all the fields spell from place i on; and their fault is that of all.
+-- from offset j on, are what all the fields spell from offset i on; and their fault is that of all.
 pub record AreFieldsRead (b : Octets) (ps : List Field) (i e : ℕ) (left : List Field) (j : ℕ)
     (so_far : Octets) : Type 0 where
   pub inside : j ≤ e

@@ -1,5 +1,5 @@
 -- A name that was laid out before is laid out again by the form that it had.
-use Rattle.dns_wire.proofs.Common.{◌≡◌, ◌↔◌, ℕ, zero, suc, ◌+◌, ◌<◌, ◌≤◌, Bool, true, false, cond, nat_le, List, [], ◌∷◌, ◌++◌, length, take, Option, None, Some, refl, sym, ap, ap₂, ◌∙◌, subst, arith, append_assoc, append-nil, length-append, le-leb, leb-true, leb-false, lt-leb, ◌⊎◌, inl, inr, false≢true, OnTrue, Octets, DomainName, wire, is_name, Placed, suffix_place, place_of, last_place, shared_place, shared_octets, suffix_to, shared_is, shared_to, shared_none, Kept, IsSharedAt, front_size, pointed_place, end_octets, asked_places, new_places, Holds, Follows, IsAsked, name_laid, Form, IsLaid, form_again, suffix_number, Counts, PartialMessage, partial_of, HasNames, WritesAfter, known_places, with_octets, subst₂}
+use Rattle.dns_wire.proofs.Common.{◌≡◌, ◌↔◌, ℕ, zero, suc, ◌+◌, ◌<◌, ◌≤◌, Bool, true, false, cond, nat_le, List, [], ◌∷◌, ◌++◌, length, take, Option, None, Some, refl, sym, ap, ap₂, ◌∙◌, subst, arith, append_assoc, append-nil, length-append, le-leb, leb-true, leb-false, lt-leb, ◌⊎◌, inl, inr, false≢true, OnTrue, Octets, DomainName, wire, is_name, Placed, suffix_place, place_of, last_place, shared_place, shared_octets, suffix_to, shared_is, shared_to, shared_none, Kept, IsSharedAt, front_size, pointed_offset, end_octets, asked_offsets, new_offsets, Holds, Follows, IsAsked, name_laid, Form, IsLaid, form_again, suffix_number, Counts, PartialMessage, partial_of, HasNames, WritesAfter, known_offsets, with_octets, subst₂}
 use Rattle.std.specs.Bool.{OnFalse}
 use Rattle.dns_wire.proofs.AskedLemmas.{kept_more}
 use Rattle.dns_wire.proofs.NameWritten.{holds_name, place_left, place_new, shared_cut}
@@ -7,7 +7,7 @@ use Rattle.dns_wire.proofs.SuffixLemmas.{found, front-as, front-root, pointed-as
 use Rattle.dns_wire.proofs.Steps.{grows_not}
 use Rattle.dns_spec.proofs.Layouts.SharedNames.{Suffix}
 
--- a suffix that no earlier name has is found in the name n, laid out at place p
+-- a suffix that no earlier name has is found in the name n, laid out at offset p
 place_added : (ms more : List Placed) (n : DomainName) (p : ℕ) (s : DomainName) → Suffix n s
     → place_of ms s ≡ None → place_of (ms ++ (n, p) ∷ more) s ≡ Some (suffix_place (n, p) s)
 place_added ms more n p s suffix none =
@@ -15,7 +15,7 @@ place_added ms more n p s suffix none =
     ∙ place_left (ms ++ (n, p) ∷ []) more s (suffix_place (n, p) s)
     (place_new ms (n, p) s none (suffix_to n s suffix))
 
--- a name beyond the reach of pointers does not change which places its suffixes share
+-- a name beyond the reach of pointers does not change which offsets its suffixes share
 shared_still : (ms more : List Placed) (n : DomainName) (p : ℕ) (s : DomainName) → Suffix n s
     → last_place < p → shared_place (ms ++ (n, p) ∷ more) s ≡ shared_place ms s
 shared_still ms more n p s suffix high = go (place_of ms s) refl
@@ -25,10 +25,10 @@ shared_still ms more n p s suffix high = go (place_of ms s) refl
     go None e = grind (arith, place_added, shared_none, lt-leb)
     go (Some q) e = grind (arith, place_left)
 
--- how a name is laid out depends only on the places at which its suffixes are shared
+-- how a name is laid out depends only on the offsets at which its suffixes are shared
 same_form : (ms ms' : List Placed) (n : DomainName) → ((s : DomainName)
     → Suffix n s → shared_place ms' s ≡ shared_place ms s)
-    → IsLaid ms' n (front_size ms n, pointed_place ms n)
+    → IsLaid ms' n (front_size ms n, pointed_offset ms n)
 same_form ms ms' [] same =
     (front-root ms' ∙ sym (front-root ms), pointed-root ms' ∙ sym (pointed-root ms))
 same_form ms ms' (l ∷ n) same =
@@ -39,8 +39,8 @@ same_form ms ms' (l ∷ n) same =
     own = same (l ∷ n) (record { front = []; whole = refl })
 
     go : (x : Option ℕ) → shared_place ms (l ∷ n) ≡ x
-        → IsLaid ms' n (front_size ms n, pointed_place ms n)
-        → IsLaid ms' (l ∷ n) (front_size ms (l ∷ n), pointed_place ms (l ∷ n))
+        → IsLaid ms' n (front_size ms n, pointed_offset ms n)
+        → IsLaid ms' (l ∷ n) (front_size ms (l ∷ n), pointed_offset ms (l ∷ n))
     go None e h = (
       front-as ms' l n (own ∙ e) ∙ ap (λ k. 1 + length l + k) h.0 ∙ sym (front-as ms l n e),
       pointed-as ms' l n (own ∙ e) ∙ h.1 ∙ sym (pointed-as ms l n e),
@@ -50,7 +50,7 @@ same_form ms ms' (l ∷ n) same =
       pointed-as ms' l n (own ∙ e) ∙ sym (pointed-as ms l n e),
     )
 
--- a name that was laid out in this form at place p is laid out again by `form_again`
+-- a name that was laid out in this form at offset p is laid out again by `form_again`
 pub laid_again : (ms more : List Placed) (n : DomainName) (p : ℕ) (form : Form)
     → ((l : Octets) (t : DomainName) (q : ℕ) → place_of ms (l ∷ t) ≡ Some q → q < p)
     → IsLaid ms n form → IsLaid (ms ++ (n, p) ∷ more) n (form_again p form)
@@ -101,21 +101,21 @@ laid_again ms more (l ∷ t) p (suc k, x) before laid = go (nat_le p last_place)
         (λ s suffix. shared_still ms more (l ∷ t) p s suffix high) in
         (same.0 ∙ laid.0, same.1 ∙ laid.1)
 
--- when a name is laid out again, no more places are kept of it
+-- when a name is laid out again, no more offsets are kept of it
 pub none_kept : (head : Octets → ℕ) (ms : List Placed) (n : DomainName) (start at : ℕ) (form : Form)
-    → start ≤ at → IsLaid ms n (form_again start form) → new_places head ms n at ≡ []
+    → start ≤ at → IsLaid ms n (form_again start form) → new_offsets head ms n at ≡ []
 none_kept head ms n start at (zero, x) after laid = sym (keep_none head ms n at [] laid.0)
 none_kept head ms n start at (suc k, x) after laid = go (nat_le start last_place) refl n laid
   where
     go : (b : Bool) → nat_le start last_place ≡ b → (n : DomainName)
-        → IsLaid ms n (cond b (zero, Some start) (suc k, x)) → new_places head ms n at ≡ []
+        → IsLaid ms n (cond b (zero, Some start) (suc k, x)) → new_offsets head ms n at ≡ []
     go true e n laid = sym (keep_none head ms n at [] laid.0)
     go false e [] laid = kept-root head ms at
     go false e (l ∷ t) laid =
         let high = leb-false start last_place e in
         kept-high head ms l t at (omega (arith, high, after))
 
--- a name that the message spells at a kept place is laid out as a pointer to that place
+-- a name that the message spells at a kept offset is laid out as a pointer to that offset
 pub laid_there : {head : Octets → ℕ} {ms : List Placed} {b : Octets} {ks : List Kept} {o : Octets}
     (n : DomainName) (p : ℕ) → Holds head ms b ks → o ≡ wire n → is_name n ≡ true
     → IsSharedAt ks b o p → IsLaid ms n (zero, Some p)
@@ -123,7 +123,7 @@ laid_there {ms = ms} {b} {ks} n p holds e ok shared =
     let s = subst (λ o. IsSharedAt ks b o p) e shared in
     let f = found n holds ok s.kept (s.spelled n refl ok) in (
       ap (front_size ms) f.whole ∙ front-as ms f.label f.labels f.shared,
-      ap (pointed_place ms) f.whole ∙ pointed-as ms f.label f.labels f.shared,
+      ap (pointed_offset ms) f.whole ∙ pointed-as ms f.label f.labels f.shared,
     )
 
 -- the octets of a name that is laid out in this form
@@ -145,13 +145,13 @@ form_kept at (suc k, x) (inl none) = absurd (omega (arith, none))
 form_kept at (suc k, x) (inr high) =
     ap (λ b. cond b (zero, Some at) (suc k, x)) (lt-leb at last_place high)
 
--- a name that fits is written as the octets of its layout, and its places are kept
+-- a name that fits is written as the octets of its layout, and its offsets are kept
 pub name_put : {known : List Placed → Type 0} {head head' : Octets → ℕ} {d d' : PartialMessage}
     {ks : List Kept} (n : DomainName) (o : Octets) → is_name n ≡ true
     → IsAsked d.octets d.asked_end → length d.octets + length o ≤ d.limit → head' ≡ head
     → Follows d.kept ks → d' ≡ record (with_octets d o) { kept = ks }
     → ((ms : List Placed) → HasNames d head ms → known ms → (shared_octets ms n ≡ o)
-    × (ks ≡ d.kept ++ new_places (suffix_number head) ms n (length d.octets)))
+    × (ks ≡ d.kept ++ new_offsets (suffix_number head) ms n (length d.octets)))
     → WritesAfter known head head' d d' (name_laid n) true
 name_put {known} {head} {head'} {d} {ks = ks} n o ok asked room same more is laid =
     subst (λ d'. WritesAfter known head head' d d' (name_laid n) true) (sym is) (record {
@@ -167,10 +167,11 @@ name_put {known} {head} {head'} {d} {ks = ks} n o ok asked room same more is lai
           let number = suffix_number head in
           let b = d.octets in
           let x = laid ms holds knows in
-          let new = new_places number ms n (length b) in
-          let places : asked_places number (b ++ o) d.asked_end ++ ks ≡ known_places number d ++ new
+          let new = new_offsets number ms n (length b) in
+          let offsets : asked_offsets number (b ++ o) d.asked_end ++ ks ≡ known_offsets number d
+          ++ new
           = kept_more number _ _ _ _ _ _ o asked refl refl x.1
-          ∙ sym (append_assoc (asked_places number b d.asked_end) d.kept new) in
+          ∙ sym (append_assoc (asked_offsets number b d.asked_end) d.kept new) in
           record {
             exactly = (
               λ yes. omega (arith, room, length-append b (shared_octets ms n), ap length x.0),
@@ -179,19 +180,19 @@ name_put {known} {head} {head'} {d} {ks = ks} n o ok asked room same more is lai
             written = ap (λ x. b ++ x) (sym x.0);
             stands = λ x same held.
                 subst₂ (λ p z. Holds number (ms ++ (n, p) ∷ []) (x ++ shared_octets ms n) z) same
-                (ap (λ p. known_places number d ++ new_places number ms n p) same ∙ sym places)
-                (holds_name number ms x (known_places number d) held n ok);
+                (ap (λ p. known_offsets number d ++ new_offsets number ms n p) same ∙ sym offsets)
+                (holds_name number ms x (known_offsets number d) held n ok);
           };
     })
 
--- an owner none of whose places are kept is written, or does not fit
+-- an owner none of whose offsets are kept is written, or does not fit
 pub owner_put : {known : List Placed → Type 0} {head : Octets → ℕ} {d d' : PartialMessage} {t : Bool}
     (n : DomainName) (form : Form) (front : Octets) → is_name n ≡ true
     → IsAsked d.octets d.asked_end → front ≡ take form.0 (wire n)
     → ((t ≡ true) ↔ (length d.octets + (length front + length (end_octets form.1)) ≤ d.limit))
     → OnTrue t (d' ≡ with_octets d (front ++ end_octets form.1)) → OnFalse t (d' ≡ d)
     → ((ms : List Placed) → HasNames d head ms → known ms → IsLaid ms n form
-    × (new_places (suffix_number head) ms n (length d.octets) ≡ []))
+    × (new_offsets (suffix_number head) ms n (length d.octets) ≡ []))
     → WritesAfter known head head d d' (name_laid n) t
 owner_put {known} {head} {d} {t = true} n form front ok asked cut fits put not laid =
     let end = end_octets form.1 in
@@ -228,8 +229,8 @@ owner_put {known} {head} {d} {t = false} n form front ok asked cut fits put not 
 -- what holds for the octets so far holds for equal octets in which suffixes are compared
 pub names_there : {number : Octets → ℕ} {ms : List Placed} {limit a : ℕ} {b message : Octets}
     {ks : List Kept} {n : Counts} {d : PartialMessage} → partial_of limit b a ks n ≡ d → message ≡ b
-    → Holds number ms d.octets (known_places number d)
-    → Holds number ms message (asked_places number message a ++ ks)
+    → Holds number ms d.octets (known_offsets number d)
+    → Holds number ms message (asked_offsets number message a ++ ks)
 names_there {number} {ms} {a = a} {ks = ks} view is holds = grind arith
 
 pub anyhow : {P : Type 0} (t : Bool) → P → OnTrue t P

@@ -1,5 +1,5 @@
--- A name is read label by label from place 12 on: the labels read so far, followed by what the
--- octets from the next place on spell, are the name.
+-- A name is read label by label from offset 12 on: the labels read so far, followed by what the
+-- octets from the next offset on spell, are the name.
 use Rattle.dns_wire.proofs.Common.{true, ◌≡◌, ℕ, ◌+◌, ◌<◌, ◌≤◌, [], ◌∷◌, ◌++◌, length, take, drop, get_or, ◌∙◌, ap, arith, Option, None, Some, inl, inr, option_map, option_and_then, Octets, DomainName, wire, is_name, with_label, append_assoc, append-nil, slice_get-get_or, slice_get_past, slice_get, ◌⊎◌, name_at, name_if_short, IsName-is_name, run12, run12_missing, run12_root, run12_label, run12_label_past, run12_high, name_at_12}
 use Rattle.dns_wire.proofs.Runs.{length-wire-front}
 
@@ -7,7 +7,7 @@ use Rattle.dns_wire.proofs.Runs.{length-wire-front}
 abbrev pub in_front : DomainName → DomainName × ℕ → DomainName × ℕ
 in_front n (m, e) = (n ++ m, e)
 
--- the labels n, followed by what is read from place `at` on, and the place after that
+-- the labels n, followed by what is read from offset `at` on, and the offset after that
 unfoldable pub read_on : Octets → DomainName → ℕ → Option (DomainName × ℕ)
 read_on d n at = option_and_then name_if_short (option_map (in_front n) (run12 d at))
 

@@ -1,22 +1,22 @@
 -- Once a name is laid out, it is one more earlier name: the message spells its suffixes, and their
--- places are kept.
-use Rattle.dns_wire.proofs.Common.{◌≡◌, ℕ, zero, suc, ◌+◌, ◌-◌, ◌<◌, ◌≤◌, Bool, true, false, cond, nat_le, ◌⊎◌, inl, inr, List, [], ◌∷◌, ◌++◌, length, take, drop, replicate, slice_get, Option, None, Some, refl, sym, ap, ap₂, ◌∙◌, subst, arith, append_assoc, append-nil, length-append, and_parts, leb-true, none-some, same_Some, take-append-add, list_all, Octets, DomainName, wire, is_name, is_label, RunAt, ends, goes_on, jumps, Placed, has_suffix, suffix_place, place_of, last_place, shared_place, shared_octets, is_name-tail, Stands, begins_inside, suffix_from, suffix_to, place_again, place_pushed, shared_is, shared_to, shared_none, shared_whole, shared_pointed, shared_root, AfterLabel, Known, known_more, Kept, IsKept, front_size, pointed_place, end_octets, new_places, Answers, Holds}
+-- offsets are kept.
+use Rattle.dns_wire.proofs.Common.{◌≡◌, ℕ, zero, suc, ◌+◌, ◌-◌, ◌<◌, ◌≤◌, Bool, true, false, cond, nat_le, ◌⊎◌, inl, inr, List, [], ◌∷◌, ◌++◌, length, take, drop, replicate, slice_get, Option, None, Some, refl, sym, ap, ap₂, ◌∙◌, subst, arith, append_assoc, append-nil, length-append, and_parts, leb-true, none-some, same_Some, take-append-add, list_all, Octets, DomainName, wire, is_name, is_label, RunAt, ends, goes_on, jumps, Placed, has_suffix, suffix_place, place_of, last_place, shared_place, shared_octets, is_name-tail, Stands, begins_inside, suffix_from, suffix_to, place_again, place_pushed, shared_is, shared_to, shared_none, shared_whole, shared_pointed, shared_root, AfterLabel, Known, known_more, Kept, IsKept, front_size, pointed_offset, end_octets, new_offsets, Answers, Holds}
 use Rattle.dns_wire.proofs.SuffixLemmas.{Left, next_label, front-as, front-root, pointed-as, pointed-root, kept-as, kept-more, kept-root}
 use Rattle.dns_spec.proofs.General.Places.{get_more, take_within}
 use Rattle.dns_spec.proofs.Layouts.SharedNames.{shared_some}
 
 -- a name is laid out as its front and its end
 pub shared_cut : (ms : List Placed) (n : DomainName)
-    → shared_octets ms n ≡ take (front_size ms n) (wire n) ++ end_octets (pointed_place ms n)
+    → shared_octets ms n ≡ take (front_size ms n) (wire n) ++ end_octets (pointed_offset ms n)
 shared_cut ms [] = grind (arith, shared_root, wire, end_octets, front-root, pointed-root)
 shared_cut ms (l ∷ n) = go (shared_place ms (l ∷ n)) refl (shared_cut ms n)
   where
     go : (x : Option ℕ) → shared_place ms (l ∷ n) ≡ x → shared_octets ms n ≡ take
-        (front_size ms n) (wire n) ++ end_octets (pointed_place ms n) → shared_octets ms (l ∷ n)
-        ≡ take (front_size ms (l ∷ n)) (wire (l ∷ n)) ++ end_octets (pointed_place ms (l ∷ n))
+        (front_size ms n) (wire n) ++ end_octets (pointed_offset ms n) → shared_octets ms (l ∷ n)
+        ≡ take (front_size ms (l ∷ n)) (wire (l ∷ n)) ++ end_octets (pointed_offset ms (l ∷ n))
     go None e h =
         let f = front_size ms n in
-        let o = end_octets (pointed_place ms n) in
+        let o = end_octets (pointed_offset ms n) in
         let more : take (1 + length l + f) (wire (l ∷ n)) ≡ length l ∷ (l ++ take f (wire n)) =
         ap (λ k. take k (wire (l ∷ n))) (let z : 1 + length l + f ≡ suc (length l + f) =
         omega arith in z) ∙ ap (λ z. length l ∷ z) (take-append-add l (wire n) f) in
@@ -29,13 +29,13 @@ shared_cut ms (l ∷ n) = go (shared_place ms (l ∷ n)) refl (shared_cut ms n)
 
 -- the number of octets of a name's layout
 length-shared : (ms : List Placed) (n : DomainName) → length (shared_octets ms n)
-    ≡ front_size ms n + length (end_octets (pointed_place ms n))
+    ≡ front_size ms n + length (end_octets (pointed_offset ms n))
 length-shared ms [] = grind (arith, shared_root, front-root, pointed-root)
 length-shared ms (l ∷ n) = go (shared_place ms (l ∷ n)) refl (length-shared ms n)
   where
     go : (x : Option ℕ) → shared_place ms (l ∷ n) ≡ x → length (shared_octets ms n)
-        ≡ front_size ms n + length (end_octets (pointed_place ms n)) → length (shared_octets ms
-        (l ∷ n)) ≡ front_size ms (l ∷ n) + length (end_octets (pointed_place ms (l ∷ n)))
+        ≡ front_size ms n + length (end_octets (pointed_offset ms n)) → length (shared_octets ms
+        (l ∷ n)) ≡ front_size ms (l ∷ n) + length (end_octets (pointed_offset ms (l ∷ n)))
     go None e h = omega (
       arith,
       h,
@@ -78,7 +78,7 @@ left_past {name = name} {rest} left a past ms n holds e ok =
       two,
       length-shared ms n,
       length-shared ms x.left,
-      ap (λ p. length (end_octets p)) x.place,
+      ap (λ p. length (end_octets p)) x.offset,
       ap (λ m. length (shared_octets ms m)) f.whole,
     )
 
@@ -92,7 +92,7 @@ run_more {b} x (jumps i o o' p n e at high at' is from before rest) =
     jumps i o o' p n e
     (get_more b x i o at) high (get_more b x (i + 1) o' at') is from before (run_more x rest)
 
--- a place that is kept is kept in a longer list too
+-- an offset that is kept is kept in a longer list too
 pub kept_left : (ks more : List Kept) (p h : ℕ) → IsKept ks p h → IsKept (ks ++ more) p h
 kept_left ks more p h kept = (kept.0, get_more ks more kept.0 _ kept.1)
 
@@ -110,11 +110,11 @@ kept_split (y ∷ ks) more p h (suc k, at) = go (kept_split ks more p h (k, at))
     go (inl a) = inl (suc a.0, a.1)
     go (inr b) = inr b
 
--- the place of each suffix that no earlier name has is kept, if a pointer reaches it
+-- the offset of each suffix that no earlier name has is kept, if a pointer reaches it
 pub kept_complete : (head : Octets → ℕ) (ms : List Placed) (n front : DomainName)
     (l : Octets) (t : DomainName) (i p : ℕ) → n ≡ front ++ l ∷ t → place_of ms (l ∷ t) ≡ None
     → length (wire (l ∷ t)) ≤ length (wire n) → i + (length (wire n) - length (wire (l ∷ t))) ≡ p
-    → p < 16384 → IsKept (new_places head ms n i) p (head (wire (l ∷ t)))
+    → p < 16384 → IsKept (new_offsets head ms n i) p (head (wire (l ∷ t)))
 kept_complete head ms n [] l t i p e none short at low =
     grind (arith, kept-more, shared_none, slice_get)
 kept_complete head ms [] (x ∷ front) l t i p e none short at low =
@@ -131,20 +131,20 @@ kept_complete head ms (k ∷ n) (x ∷ front) l t i p e none short at low =
     let more = kept-more head ms k n i out (omega (arith, at, low)) in
     (suc r.0, ap (λ x. slice_get x (suc r.0)) more ∙ r.1)
 
--- and each place that is kept is the place of a suffix that was not shared
+-- and each offset that is kept is the offset of a suffix that was not shared
 pub record NewSuffix (ms : List Placed) (n : DomainName) (i p : ℕ) : Type 0 where
   pub label : Octets
   pub labels : DomainName
   pub front : DomainName
   pub whole : n ≡ front ++ label ∷ labels
   pub unshared : shared_place ms (label ∷ labels) ≡ None
-  pub offset : ℕ
-  pub place : p ≡ i + offset
-  pub wire_length : length (wire n) ≡ offset + length (wire (label ∷ labels))
+  pub distance : ℕ
+  pub offset : p ≡ i + distance
+  pub wire_length : length (wire n) ≡ distance + length (wire (label ∷ labels))
   pub low : p < 16384
 
 pub kept_sound : (head : Octets → ℕ) (ms : List Placed) (n : DomainName) (i p h : ℕ)
-    → IsKept (new_places head ms n i) p h → NewSuffix ms n i p
+    → IsKept (new_offsets head ms n i) p h → NewSuffix ms n i p
 kept_sound head ms [] i p h (k, at) =
     absurd (none-some _ (ap (λ x. slice_get x k) (sym (kept-root head ms i)) ∙ at))
 kept_sound head ms (l ∷ n) i p h (k, at) = go (shared_place ms (l ∷ n)) refl
@@ -152,35 +152,36 @@ kept_sound head ms (l ∷ n) i p h (k, at) = go (shared_place ms (l ∷ n)) refl
   where
     go : (x : Option ℕ)
         → shared_place ms (l ∷ n) ≡ x → (t : Bool) → nat_le i last_place ≡ t → (k : ℕ) → slice_get
-        (new_places head ms (l ∷ n) i) k ≡ Some (record { place = p; number = h }) → ((j : ℕ)
-        → IsKept (new_places head ms n j) p h → NewSuffix ms n j p) → NewSuffix ms (l ∷ n) i p
+        (new_offsets head ms (l ∷ n) i) k ≡ Some (record { offset = p; number = h }) → ((j : ℕ)
+        → IsKept (new_offsets head ms n j) p h → NewSuffix ms n j p) → NewSuffix ms (l ∷ n) i p
     go (Some q) e t r k at again =
         absurd (none-some _ (ap (λ x. slice_get x k) (sym (kept-as head ms l n i e)) ∙ at))
     go None e false r k at again =
         absurd (none-some _ (ap (λ x. slice_get x k) (sym (kept-as head ms l n i e
-        ∙ ap (λ t. cond t (record { place = i; number = head (wire (l ∷ n)) } ∷ new_places head ms n
+        ∙ ap (λ t. cond t (record { offset = i; number = head (wire (l ∷ n)) } ∷ new_offsets head ms
+        n
         (i + 1 + length l)) []) r)) ∙ at))
     go None e true r zero at again =
         let low = leb-true i last_place r in
         let first = ap (λ x. slice_get x 0) (sym (kept-more head ms l n i e low)) ∙ at in
-        let place : i ≡ p = ap (λ (x : Kept). x.place) (same_Some _ _ first) in
+        let offset : i ≡ p = ap (λ (x : Kept). x.offset) (same_Some _ _ first) in
         record {
           label = l;
           labels = n;
           front = [];
           whole = refl;
           unshared = e;
-          offset = 0;
-          place =
-              omega (arith, place);
+          distance = 0;
+          offset =
+              omega (arith, offset);
           wire_length = omega arith;
-          low = omega (arith, place, low);
+          low = omega (arith, offset, low);
         }
     go None e true r (suc k) at again =
         let low = leb-true i last_place r in
         let s = again (i + 1 + length l)
         (k, ap (λ x. slice_get x (suc k)) (sym (kept-more head ms l n i e low)) ∙ at) in
-        let place = s.place in
+        let offset = s.offset in
         let long = s.wire_length in
         record {
           label = s.label;
@@ -188,13 +189,13 @@ kept_sound head ms (l ∷ n) i p h (k, at) = go (shared_place ms (l ∷ n)) refl
           front = l ∷ s.front;
           whole = ap (λ x. l ∷ x) s.whole;
           unshared = s.unshared;
-          offset = 1 + length l + s.offset;
-          place = omega (arith, place);
+          distance = 1 + length l + s.distance;
+          offset = omega (arith, offset);
           wire_length = omega (arith, long, length-append l (wire n));
           low = s.low;
         }
 
--- the place of a suffix does not change if more names follow
+-- the offset of a suffix does not change if more names follow
 pub place_left : (ms more : List Placed) (s : DomainName) (p : ℕ)
     → place_of ms s ≡ Some p → place_of (ms ++ more) s ≡ Some p
 place_left [] more s p e = absurd (none-some p e)
@@ -217,31 +218,31 @@ is_name-suffix (k ∷ front) s h = is_name-suffix front s (is_name-tail k (front
 
 module _ (head : Octets → ℕ) (ms : List Placed) (b : Octets)
     (ks : List Kept) (holds : Holds head ms b ks) (n : DomainName) (ok : is_name n ≡ true) where
-  answers_more : Answers head (ms ++ (n, length b) ∷ []) (ks ++ new_places head ms n (length b))
+  answers_more : Answers head (ms ++ (n, length b) ∷ []) (ks ++ new_offsets head ms n (length b))
   answers_more = record { complete = complete; sound = sound }
     where
       complete : (l : Octets) (t : DomainName) (p : ℕ) → shared_place (ms ++ (n, length b) ∷ [])
-          (l ∷ t) ≡ Some p → IsKept (ks ++ new_places head ms n (length b)) p (head (wire (l ∷ t)))
+          (l ∷ t) ≡ Some p → IsKept (ks ++ new_offsets head ms n (length b)) p (head (wire (l ∷ t)))
       complete l t p e = let here = shared_is (ms ++ (n, length b) ∷ []) (l ∷ t) p e in
           go (place_pushed ms (n, length b) (l ∷ t) p here.0) here.1
         where
           go : (place_of ms (l ∷ t) ≡ Some p) ⊎ ((place_of ms (l ∷ t) ≡ None)
               × (has_suffix n (l ∷ t) ≡ true) × (suffix_place (n, length b) (l ∷ t) ≡ p))
-              → p < 16384 → IsKept (ks ++ new_places head ms n (length b)) p (head (wire (l ∷ t)))
-          go (inl f) low = kept_left ks (new_places head ms n (length b)) p
+              → p < 16384 → IsKept (ks ++ new_offsets head ms n (length b)) p (head (wire (l ∷ t)))
+          go (inl f) low = kept_left ks (new_offsets head ms n (length b)) p
               (head (wire (l ∷ t))) (holds.answers.complete l t p (shared_to ms (l ∷ t) p f low))
           go (inr f) low =
               let s = suffix_from n (l ∷ t) f.1 in
               let short = (begins_inside ms n s.front l t s.whole f.0).0 in
-              kept_right ks (new_places head ms n (length b)) p (head (wire (l ∷ t)))
+              kept_right ks (new_offsets head ms n (length b)) p (head (wire (l ∷ t)))
               (kept_complete head ms n s.front l t (length b) p s.whole f.0 short f.2 low)
 
       sound : (p h : ℕ)
-          → IsKept (ks ++ new_places head ms n (length b)) p h → (l : Octets) × (t : DomainName)
+          → IsKept (ks ++ new_offsets head ms n (length b)) p h → (l : Octets) × (t : DomainName)
           × (shared_place (ms ++ (n, length b) ∷ []) (l ∷ t) ≡ Some p) × (is_name (l ∷ t) ≡ true)
-      sound p h kept = go (kept_split ks (new_places head ms n (length b)) p h kept)
+      sound p h kept = go (kept_split ks (new_offsets head ms n (length b)) p h kept)
         where
-          go : IsKept ks p h ⊎ IsKept (new_places head ms n (length b)) p h → (l : Octets)
+          go : IsKept ks p h ⊎ IsKept (new_offsets head ms n (length b)) p h → (l : Octets)
               × (t : DomainName) × (shared_place (ms ++ (n, length b) ∷ []) (l ∷ t) ≡ Some p)
               × (is_name (l ∷ t) ≡ true)
           go (inl old) =
@@ -257,12 +258,12 @@ module _ (head : Octets → ℕ) (ms : List Placed) (b : Octets)
               let s = kept_sound head ms n (length b) p h new in
               let suffix : DomainName = s.label ∷ s.labels in
               let has = suffix_to n suffix (record { front = s.front; whole = s.whole }) in
-              let place = s.place in
+              let offset = s.offset in
               let long = s.wire_length in
               let low = s.low in
-              let at : suffix_place (n, length b) suffix ≡ p = omega (arith, place, long) in
+              let at : suffix_place (n, length b) suffix ≡ p = omega (arith, offset, long) in
               let none = unplaced suffix s.label s.labels refl (place_of ms suffix)
-              refl s.unshared low (let z : length b ≤ p = omega (arith, place) in z) in
+              refl s.unshared low (let z : length b ≤ p = omega (arith, offset) in z) in
               let pushed = place_new ms (n, length b) suffix none has ∙ ap Some at in (
                 s.label,
                 s.labels,
@@ -280,7 +281,7 @@ module _ (head : Octets → ℕ) (ms : List Placed) (b : Octets)
                   (sym out ∙ shared_to ms suffix q e (omega (arith, before, above, low))))
 
   pub holds_name : Holds head
-      (ms ++ (n, length b) ∷ []) (b ++ shared_octets ms n) (ks ++ new_places head ms n (length b))
+      (ms ++ (n, length b) ∷ []) (b ++ shared_octets ms n) (ks ++ new_offsets head ms n (length b))
   holds_name = record {
     spelled = spelled;
     before = before;

@@ -1,5 +1,5 @@
 -- One more set in a message being written: it is put if the layout with it fits.
-use Rattle.dns_wire.proofs.Common.{◌≡◌, ◌↔◌, ℕ, ◌+◌, ◌≤◌, ◌^◌, Bool, true, false, cond, List, [], ◌∷◌, ◌++◌, length, drop, replicate, Option, None, refl, sym, ap, ◌∙◌, subst, subst₂, arith, All, IfSome, Some, append_assoc, append-nil, length-append, ◌<◌, lt_of_not-le, false≢true, Octets, DomainName, wire, RecordSet, records_at, Header, MessageQuestion, Spells, size, Sharing, IsWritable, IsAskable, sections_in_order, length-map, length-drop, flat_map-append, Item, Laid, laid_front, records_of, in_section, is_section, asked_octets, asked_placed, octets16, question_octets, layout, header_octets, message_of, shared_alone, layout_spells, past_limit, length-layout, Section, asked_places, new_places, Holds, records_laid, suffix_number, PartialMessage, partial_of, known_places, HasNames, IsPartial, empty_message, Writes, with_counted, counts_of, item_of, names_so_far, Counts}
+use Rattle.dns_wire.proofs.Common.{◌≡◌, ◌↔◌, ℕ, ◌+◌, ◌≤◌, ◌^◌, Bool, true, false, cond, List, [], ◌∷◌, ◌++◌, length, drop, replicate, Option, None, refl, sym, ap, ◌∙◌, subst, subst₂, arith, All, IfSome, Some, append_assoc, append-nil, length-append, ◌<◌, lt_of_not-le, false≢true, Octets, DomainName, wire, RecordSet, records_at, Header, MessageQuestion, Spells, size, Sharing, IsWritable, IsAskable, sections_in_order, length-map, length-drop, flat_map-append, Item, Laid, laid_front, records_of, in_section, is_section, asked_octets, asked_placed, octets16, question_octets, layout, header_octets, message_of, shared_alone, layout_spells, past_limit, length-layout, Section, asked_offsets, new_offsets, Holds, records_laid, suffix_number, PartialMessage, partial_of, known_offsets, HasNames, IsPartial, empty_message, Writes, with_counted, counts_of, item_of, names_so_far, Counts}
 use Rattle.dns_spec.specs.Layout as Layout
 use Rattle.dns_wire.proofs.AskedLemmas.{asked_nothing, asked_whole}
 use Rattle.dns_wire.proofs.NameWritten.{holds_nothing, holds_octets, holds_name}
@@ -73,7 +73,7 @@ put_in {head} {d = d} {d'} q items section owner ttl set w counts partial =
       written = done.written ∙ ap (λ z. z ++ more.written) partial.written ∙ append_assoc
           front l.written more.written ∙ ap (λ (x : Laid). front ++ x.written) (sym all);
       holds =
-          subst₂ (λ x b. Holds (suffix_number head) x b (known_places (suffix_number head) d'))
+          subst₂ (λ x b. Holds (suffix_number head) x b (known_offsets (suffix_number head) d'))
           (append_assoc (asked_placed q) l.names more.names
           ∙ ap (λ (x : Laid). asked_placed q ++ x.names) (sym all)) (sym done.written)
           (done.stands d.octets refl partial.holds);
@@ -93,7 +93,7 @@ pub nothing_begins : (head : Octets → ℕ) (limit : ℕ) → IsPartial head No
 nothing_begins head limit =
     let number = suffix_number head in
     draft_begins head None (empty_message limit) refl (subst (Holds number [] (replicate 12 0))
-    (sym (append-nil (asked_places number (replicate 12 0) 12)
+    (sym (append-nil (asked_offsets number (replicate 12 0) 12)
     ∙ asked_nothing number (replicate 12 0))) (holds_nothing number)) refl tt
 
 -- a message with only a question
@@ -111,14 +111,14 @@ asked_begins head limit q askable =
     let number = suffix_number head in
     let n = q.qname in
     let o = octets16 q.qtype ++ octets16 q.qclass in
-    let new = new_places number [] n 12 in
-    let places : known_places number (asked_message limit q) ≡ new = append-nil
-    (asked_places number (replicate 12 0 ++ question_octets q) (12 + length (wire n)))
+    let new = new_offsets number [] n 12 in
+    let offsets : known_offsets number (asked_message limit q) ≡ new = append-nil
+    (asked_offsets number (replicate 12 0 ++ question_octets q) (12 + length (wire n)))
     ∙ asked_whole number n o (question_whole q) askable.qname refl in
     let alone = subst (λ x. Holds number ((n, 12) ∷ []) (replicate 12 0 ++ x) new) (shared_alone n)
     (holds_name number [] (replicate 12 0) [] (holds_nothing number) n askable.qname) in
     draft_begins head (Some q) (asked_message limit q) refl (subst₂ (Holds number ((n, 12) ∷ []))
-    (sym (question_whole q)) (sym places) (holds_octets o alone)) refl askable
+    (sym (question_whole q)) (sym offsets) (holds_octets o alone)) refl askable
 
 abbrev pub header_of : Header → Counts → Octets
 header_of h n = header_octets h n.questions n.answers n.authorities n.additionals

@@ -1,9 +1,9 @@
--- Where the name of a question ends: the labels in the datagram before a place are the first labels
--- of the name.
+-- Where the name of a question ends: the labels in the datagram before an offset are the first
+-- labels of the name.
 use Rattle.dns_wire.proofs.Common.{true, ◌≡◌, ℕ, suc, ◌+◌, ◌-◌, ◌<◌, ◌≤◌, [], ◌∷◌, ◌++◌, length, take, drop, get_or, refl, sym, ◌∙◌, ap, arith, None, Some, length-append, length-take, length-drop, take-add, drop-cons, eq-eqb, Octets, DomainName, wire, is_name, MessageQuestion, name_at, field16, question_at, append_assoc, append-nil, drop-drop, is_name-push, NameEnds}
 use Rattle.dns_wire.proofs.NameLoop.{read_on, read_on-start, read_on-root, read_on-label, read_on-past, read_on-high, read_on-long, read_on-missing}
 
--- the labels before a place, followed by what is read from there on, are the name
+-- the labels before an offset, followed by what is read from there on, are the name
 pub record ReadTo (d : Octets) (at : ℕ) : Type 0 where
   pub labels : DomainName
   pub name_is : read_on d labels at ≡ name_at d 12
@@ -20,7 +20,7 @@ read_nothing d = record {
   from = omega arith;
 }
 
--- the octets at a place after the header
+-- the octets at an offset after the header
 octets_at : (d : Octets) (at : ℕ)
     → 12 ≤ at → at < length d → drop (at - 12) (drop 12 d) ≡ get_or d at 0 ∷ drop (suc at) d
 octets_at d at from inside = grind (arith, drop-drop, drop-cons)
@@ -92,7 +92,7 @@ module _ (d : Octets) (at : ℕ) (r : ReadTo d at) where
               next_octets,
             )
 
--- the question with the name n, whose type and class are in the four octets from place e on
+-- the question with the name n, whose type and class are in the four octets from offset e on
 abbrev pub question_then : Octets → DomainName → ℕ → MessageQuestion
 question_then d n e = record { qname = n; qtype = field16 d e; qclass = field16 d (e + 2) }
 

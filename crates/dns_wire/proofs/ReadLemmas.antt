@@ -2,13 +2,13 @@
 use Rattle.dns_wire.proofs.Common.{◌≡◌, ℕ, zero, suc, ◌<◌, List, [], ◌∷◌, ◌++◌, Option, Some, None, option_map, ◌∙◌, arith, append_assoc, append-nil, several}
 use Rattle.dns_spec.specs.MessageFaults.{SeveralFault}
 
--- the fault of the `left` that are read from place j on is that of all
+-- the fault of the `left` that are read from offset j on is that of all
 pub record KeepsFault {A : Type 0} (read : ℕ → Option (A × ℕ)) (Fault : ℕ → ℕ → Type 0)
     (count i left j : ℕ) : Type 0 where
   pub faults : (f : ℕ) → SeveralFault read Fault left j f → SeveralFault read Fault count i f
 
--- The invariant of reading `count` questions or records in order from place i on: those in
--- `so_far`, followed by the `left` that are read from place j on, are all of them.
+-- The invariant of reading `count` questions or records in order from offset i on: those in
+-- `so_far`, followed by the `left` that are read from offset j on, are all of them.
 pub record AreRead {A : Type 0} (read : ℕ → Option (A × ℕ)) (count i : ℕ) (so_far : List A)
     (left j : ℕ) : Type 0 where
   pub same :

@@ -30,10 +30,10 @@ records_split [] ss ms p = grind (arith, records_none, ap₂, append-nil, add-ze
 records_split (r ∷ rs) ss ms p =
     let l = record_laid ms p r in
     let later = ms ++ l.names in
-    let place = p + length l.written in
-    let rest = records_laid rs later place in
-    let more = records_laid ss (later ++ rest.names) (place + length rest.written) in
-    let at : p + length (l.written ++ rest.written) ≡ place + length rest.written =
+    let offset = p + length l.written in
+    let rest = records_laid rs later offset in
+    let more = records_laid ss (later ++ rest.names) (offset + length rest.written) in
+    let at : p + length (l.written ++ rest.written) ≡ offset + length rest.written =
     omega (arith, length-append l.written rest.written) in
     ap (λ (x : Laid). laid_front x.written x.names
     (records_laid ss (ms ++ x.names) (p + length x.written))) (records_more ms p r rs)
@@ -41,7 +41,7 @@ records_split (r ∷ rs) ss ms p =
     (ap₂ (λ m k. records_laid ss m k) (sym (append_assoc ms l.names rest.names)) at) ∙ ap₂ (λ
     w n. record { written = w; names = n }) (append_assoc l.written rest.written more.written)
     (append_assoc l.names rest.names more.names) ∙ ap (λ (x : Laid). laid_front l.written
-    l.names x) (records_split rs ss later place) ∙ sym (records_more ms p r (rs ++ ss))
+    l.names x) (records_split rs ss later offset) ∙ sym (records_more ms p r (rs ++ ss))
 
 record_alone : (r : ResourceRecord) (ms : List Placed) (p : ℕ)
     → record_laid ms p r ≡ records_laid (r ∷ []) ms p
@@ -54,16 +54,16 @@ records_long ms p [] = omega arith
 records_long ms p (r ∷ rs) =
     let l = record_laid ms p r in
     let more = ms ++ l.names in
-    let place = p + length l.written in
+    let offset = p + length l.written in
     let owner = shared_octets ms r.owner in
     let d = (data_laid
     (ms ++ (r.owner, p) ∷ []) (p + length owner + 10) (laid_parts r.rtype r.rdata)).written in
-    let rest = (records_laid rs more place).written in
+    let rest = (records_laid rs more offset).written in
     let whole : length (records_laid (r ∷ rs) ms p).written ≡ length l.written + length rest = ap
     (λ (x : Laid). length x.written) (records_more ms p r rs) ∙ length-append l.written rest in
     let own : length l.written ≡ length owner + (10 + length d) = length-append owner
     (record_tail r d) ∙ ap (λ k. length owner + k) (length-record_tail r d) in
-    let others = records_long more place rs in
+    let others = records_long more offset rs in
     omega (arith, whole, own, others)
 
 pub set_long : (owner : DomainName) (ttl : ℕ) (set : RecordSet) (ms : List Placed) (p : ℕ)

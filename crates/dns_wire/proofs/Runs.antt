@@ -1,4 +1,4 @@
--- What is at a place in a run of labels determines how the run continues.
+-- What is at an offset in a run of labels determines how the run continues.
 use Rattle.dns_spec.specs.MessageFaults.{RunFault, NameFault, step_fault, stopped, too_long, labelled, pointed}
 use Rattle.dns_wire.specs.declared.wire_fault.WireFault.{WireFault}
 use Rattle.dns_wire.specs.WireFault.{fault_code}
@@ -6,13 +6,13 @@ use Rattle.dns_wire.proofs.Common.{pointer_place, ◌≡◌, ℕ, ◌+◌, ◌<�
 use Rattle.std.specs.Option.{unwrap_or}
 use Rattle.std.specs.Prelude.{IsTrue}
 
--- the place after a name's own octets: `end` if a pointer was followed already, else e
+-- the offset after a name's own octets: `end` if a pointer was followed already, else e
 abbrev pub end_or : Option ℕ → ℕ → ℕ
 end_or end e = unwrap_or end e
 
--- The invariant of reading a name from place `at`: the labels so far, followed by what the current
--- run spells from place i on, are what the message spells at place `at`, and it spells nothing else
--- there; and a fault from place i on is the name's fault.
+-- The invariant of reading a name from offset `at`: the labels so far, followed by what the current
+-- run spells from offset i on, are what the message spells at offset `at`, and it spells nothing
+-- else there; and a fault from offset i on is the name's fault.
 pub record IsReading (b : Octets) (at : ℕ) (n : DomainName) (s i : ℕ)
     (end : Option ℕ) : Type 0 where
   pub is_name : IsTrue (is_name n)
@@ -23,7 +23,7 @@ pub record IsReading (b : Octets) (at : ℕ) (n : DomainName) (s i : ℕ)
   pub back : (w : DomainName) (f : ℕ) → RunAt b at at w f
       → (m : DomainName) × (e : ℕ) × RunAt b s i m e × (w ≡ n ++ m) × (f ≡ end_or end e)
 
--- how a run continues from place i: with its end, a label, or a pointer
+-- how a run continues from offset i: with its end, a label, or a pointer
 pub data GoesOn (b : Octets) (s i : ℕ) (n : DomainName) (e : ℕ) : Type 0 where
   at_end : slice_get b i ≡ Some 0 → n ≡ [] → e ≡ i + 1 → GoesOn b s i n e
   at_label : (l : Octets) (m : DomainName)
@@ -43,7 +43,7 @@ pointer_there {o = o} {o' = o'} at high at' is from before = record {
   first_there = at;
   high = high;
   second_there = at';
-  place = is;
+  offset = is;
   after_header = from;
   before_run = before;
 }
@@ -65,7 +65,7 @@ pub label_stands : (b l : Octets) (i k : ℕ) → i < length b → get_or b i 0 
 label_stands b l i k inside e some short within is = (label_there (there_is b i k inside e)
     some short (omega (arith, inside, within, length-drop (i + 1) b)) is).1
 
--- what the octet at a place determines about the run
+-- what the octet at an offset determines about the run
 module _ (b : Octets) (s i k : ℕ) (inside : i < length b) (is : get_or b i 0 ≡ k) where
   pub no_label : 0 < k → k < 64 → length (drop (i + 1) b) < k → NoRunAt b s i
   no_label some short past n e run = grind (arith, there_is, length-drop)
@@ -125,7 +125,7 @@ reading_label {b} {at} {s} {i} {n} {end} l reading there ok = record {
     go w f m e p q (at_end root none end) =
         absurd (omega (arith, same_Some (length l) 0 (sym there.length_there ∙ root), there.some))
     go w f m e p q (at_label k rest label shape run) = grind (arith, same_Some, append_assoc, next)
-    go w f m e p q (at_pointer place d pointer end run) = grind arith
+    go w f m e p q (at_pointer offset d pointer end run) = grind arith
 
 -- if the next label makes the name too long, there is no name
 pub label_too_long : {b : Octets} {at s i : ℕ} {n : DomainName} {end : Option ℕ} (l : Octets)
@@ -147,7 +147,7 @@ label_too_long {b} {at} {s} {i} {n} {end} l reading there long =
         let whole : w ≡ (n ++ l ∷ []) ++ rest = p ∙ ap
         (λ x. n ++ x) (shape ∙ ap (λ x. x ∷ rest) same) ∙ sym (append_assoc n (l ∷ []) rest) in
         grind (arith, wire, length-wire-front)
-    go w short m e p (at_pointer place d pointer end run) = grind arith
+    go w short m e p (at_pointer offset d pointer end run) = grind arith
 
 pub end_fits : (b : Octets) (x : Option ℕ) (e : ℕ)
     → IfSome x (λ y. y ≤ length b) → e ≤ length b → end_or x e ≤ length b
@@ -162,10 +162,10 @@ reading_jumps {b} {at} {s} {i} {p} {n} {end} reading there inside = record {
   end_within = end_fits b end (i + 2) reading.end_within
       (omega (arith, slice_get_within b (i + 1) there.second there.second_there));
   faults = λ f fault. reading.faults f (pointed i there.first there.second p f there.first_there
-      there.high there.second_there there.place there.after_header there.before_run fault);
+      there.high there.second_there there.offset there.after_header there.before_run fault);
   forth =
       λ m e run. reading.forth m (i + 2) (jumps i there.first there.second p m e there.first_there
-      there.high there.second_there there.place there.after_header there.before_run run);
+      there.high there.second_there there.offset there.after_header there.before_run run);
   back = λ w f run. let r = reading.back w f run in go w f r.0 r.1 r.3 r.4 (goes_on_at r.2);
 }
   where
@@ -175,7 +175,7 @@ reading_jumps {b} {at} {s} {i} {p} {n} {end} reading there inside = record {
     go w f m e q r (at_end root none is) =
         absurd (omega (arith, same_Some there.first 0 (sym there.first_there ∙ root), there.high))
     go w f m e q r (at_label k rest label shape run) = grind arith
-    go w f m e q r (at_pointer place d pointer is run) = grind arith
+    go w f m e q r (at_pointer offset d pointer is run) = grind arith
 
 -- a fault has a number, which is the name's fault if it is found at the next step
 code_some : (fault : WireFault) → 0 < fault_code fault

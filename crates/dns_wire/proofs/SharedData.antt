@@ -1,6 +1,6 @@
 -- The parts of data whose names are compressed: one name, a number and a name, or two names and
 -- five numbers.
-use Rattle.dns_wire.proofs.Common.{◌≡◌, suc-mul, ◌*◌, ℕ, ◌-◌, ◌≤◌, true, List, [], ◌∷◌, ◌++◌, length, take, drop, Option, None, Some, refl, sym, ap, ap₂, ◌∙◌, subst, arith, append-nil, length-append, take_at, drop_at, false≢true, and_parts, none-some, same_Some, Bor, Octets, DomainName, wire, is_name, length-take, length-drop, Field, domain, type_mx, type_soa, Part, octets, name, field_front, cut, fields_of, parts, laid_parts, compresses, valid, cut_into, name_part, octets_part, front_taken, labels_of, IsWireForm, Cuts, IsBorrowed, part_for, Name, number, zero, suc, replicate}
+use Rattle.dns_wire.proofs.Common.{◌≡◌, suc-mul, ◌*◌, ℕ, ◌-◌, ◌≤◌, true, List, [], ◌∷◌, ◌++◌, length, take, drop, Option, None, Some, refl, sym, ap, ap₂, ◌∙◌, subst, arith, append-nil, length-append, take_at, drop_at, false≢true, and_parts, none-some, same_Some, Bor, Octets, DomainName, wire, is_name, length-take, length-drop, Field, domain, type_mx, type_soa, Part, octets, name, field_front, cut, fields_of, parts, laid_parts, compresses, valid, cut_into, name_part, octets_part, front_taken, labels_of, IsWireForm, Cuts, IsWirePart, part_for, Name, number, zero, suc, replicate}
 use Rattle.dns_rdata.specs.declared.parts.Part as Borrowed
 use Rattle.dns_wire.proofs.DataWritten.{runs}
 use Rattle.dns_wire.proofs.ValidData.{by_row}
@@ -93,17 +93,17 @@ authority_laid {r} {part} {rest} {server} t d soa ok some named cuts =
     let (m, tail, others, ok_m, whole, parts, more) =
     first_name five rest.now c.others (ap (cut (domain ∷ five)) (sym after) ∙ c.more) in
     let (ends, long) = numbers_cut 4 5 tail others more in
-    let place : length rest.now - 20 ≡ length (wire m) =
+    let offset : length rest.now - 20 ≡ length (wire m) =
     omega (arith, ap length whole, length-append (wire m) tail, long) in
     let back : drop (length rest.now - 20) rest.now ≡ tail =
-    ap₂ drop place whole ∙ drop_at (wire m) tail (length (wire m)) refl in
+    ap₂ drop offset whole ∙ drop_at (wire m) tail (length (wire m)) refl in
     record {
-      borrowed = subst IsBorrowed named borrowed.1;
+      borrowed = subst IsWirePart named borrowed.1;
       mailbox = m;
       is_name = ok_m;
       inside = omega (arith, ap length whole, length-append (wire m) tail, long);
       long = ap length back ∙ long;
-      whole = ap₂ take place whole ∙ take_at (wire m) tail (length (wire m)) refl;
+      whole = ap₂ take offset whole ∙ take_at (wire m) tail (length (wire m)) refl;
       parts = sym c.whole ∙ ap₂ (λ x ys. x ∷ ys)
           (ap (λ (x : Part × Octets). x.0) same) (parts
           ∙ ap (λ ys. name m ∷ ys) (ends ∙ ap (runs 4 5) (sym back)));

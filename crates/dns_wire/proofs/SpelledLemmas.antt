@@ -1,4 +1,4 @@
--- What is at a place, and what follows it, determine what is spelled from there on.
+-- What is at an offset, and what follows it, determine what is spelled from there on.
 use Rattle.dns_wire.proofs.Common.{◌≡◌, ℕ, ◌+◌, ◌<◌, true, [], ◌∷◌, ◌++◌, length, take, drop, slice_get, Some, refl, sym, ap, ◌∙◌, subst, arith, drop_at, take-append-drop, length-append, and_parts, length-take-le, same_Some, list_all, Octets, DomainName, wire, is_name, is_label, RunAt, ends, goes_on, jumps, Stands, run_written, LabelAt, PointerAt, SpelledFrom, SpellsSuffix, HasAt}
 use Rattle.dns_wire.proofs.Runs.{GoesOn, at_end, at_label, at_pointer, goes_on_at}
 use Rattle.dns_wire.proofs.SuffixLemmas.{next_label}
@@ -69,7 +69,7 @@ spelled_jump {b} {s} {i} {p} {o} there = (forth, λ h. back h.0 h.1 h.3 (goes_on
       h.0,
       i + 2,
       jumps i there.first there.second p h.0 h.1 there.first_there
-          there.high there.second_there there.place there.after_header there.before_run h.2,
+          there.high there.second_there there.offset there.after_header there.before_run h.2,
       h.3,
     )
 
@@ -88,7 +88,7 @@ stands_at {b} {o} {p} has = record {
   place = length-take-le p b has.0;
 }
 
--- a name whose wire form is in a message at a place is spelled there
+-- a name whose wire form is in a message at an offset is spelled there
 pub spelled_whole : {b o : Octets} {p : ℕ} → HasAt b p o → SpellsSuffix b p o
 spelled_whole {b} {o} {p} has n e ok = (
   n,

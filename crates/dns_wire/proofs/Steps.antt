@@ -11,7 +11,7 @@ both_laid f g ms p =
     let l = f ms p in
     laid_front l.written l.names (g (ms ++ l.names) (p + length l.written))
 
--- a builder stays well kept with other octets, places and counts that satisfy the bounds
+-- a builder stays well kept with other octets, offsets and counts that satisfy the bounds
 pub kept_with : {N size a : ℕ} {b : Octets} {ks : List Kept} {n : Counts} {d : PartialMessage} → IsWellKept N
     size d → length b ≤ d.limit → 2 * length ks ≤ length b → IsAsked b a → 12 ≤ length b → n.answers
     + n.authorities + n.additionals ≤ length b → IsWellKept N size (partial_of d.limit b a ks n)
@@ -39,7 +39,7 @@ pub taken_back : {d d' : PartialMessage} {k j : ℕ} → Grows d d' → k ≡ le
     → j ≡ length d.kept → record d' { octets = take k d'.octets; kept = take j d'.kept } ≡ d
 taken_back {d} {d'} {k} {j} g octets kept = grind (arith, ap₂, take-append_seam)
 
--- octets that fit are written, and no places are kept
+-- octets that fit are written, and no offsets are kept
 pub octets_written : {d d' : PartialMessage} (head : Octets → ℕ) (o : Octets)
     → IsAsked d.octets d.asked_end → length d.octets + length o ≤ d.limit
     → d' ≡ with_octets d o → Writes head head d d' (octets_laid o) true

@@ -1,9 +1,10 @@
--- The place found for a suffix is the place at which it is shared, and the places kept of a name
+-- The offset found for a suffix is the offset at which it is shared, and the offsets kept of a name
 -- are exactly those that later names may share.
-use Rattle.dns_wire.proofs.Common.{◌≡◌, ℕ, zero, suc, ◌+◌, ◌-◌, ◌*◌, ◌<◌, ◌≤◌, Bool, true, false, cond, nat_le, List, [], ◌∷◌, ◌++◌, length, take, drop, get_or, Option, None, Some, refl, sym, ap, ap₂, ◌∙◌, subst, arith, append_assoc, append-nil, length-append, drop_at, le-leb, leb-true, same_Some, Octets, DomainName, wire, is_name, RunAt, Placed, last_place, shared_place, ends, goes_on, jumps, length-drop, label_parts, is_name-tail, is_label-head, wire-injective, pointer_place, Kept, HasPlace, SpelledAt, SpellsSuffix, NoneSpelled, AfterLabel, front_size, pointed_place, new_places, Holds, Follows}
+use Rattle.dns_wire.proofs.Common.{◌≡◌, ℕ, zero, suc, ◌+◌, ◌-◌, ◌*◌, ◌<◌, ◌≤◌, Bool, true, false, cond, nat_le, List, [], ◌∷◌, ◌++◌, length, take, drop, get_or, Option, None, Some, refl, sym, ap, ap₂, ◌∙◌, subst, arith, append_assoc, append-nil, length-append, drop_at, le-leb, leb-true, same_Some, Octets, DomainName, wire, is_name, RunAt, Placed, last_place, shared_place, ends, goes_on, jumps, length-drop, label_parts, is_name-tail, is_label-head, wire-injective, pointer_place, Kept, HasOffset, SpelledAt, SpellsSuffix, NoneSpelled, AfterLabel, front_size, pointed_offset, new_offsets, Holds, Follows}
 use Rattle.dns_wire.proofs.Runs.{GoesOn, at_end, at_label, at_pointer, goes_on_at}
 
--- how a name is laid out, depending on the place at which the whole name is shared, if it is shared
+-- how a name is laid out, depending on the offset at which the whole name is shared, if it is
+-- shared
 module _ (ms : List Placed)
     (l : Octets) (n : DomainName) {x : Option ℕ} (is : shared_place ms (l ∷ n) ≡ x) where
   pub front-as : front_size ms
@@ -11,20 +12,20 @@ module _ (ms : List Placed)
   unfolding front_size
   front-as = grind (arith, ℕ, None, front_size, Some)
 
-  pub pointed-as : pointed_place ms
-      (l ∷ n) ≡ elim x as (λ _. Option ℕ) [ None ↦ pointed_place ms n | Some p ↦ Some p ]
-  unfolding pointed_place
-  pointed-as = grind (arith, Option, ℕ, None, pointed_place, Some)
+  pub pointed-as : pointed_offset ms
+      (l ∷ n) ≡ elim x as (λ _. Option ℕ) [ None ↦ pointed_offset ms n | Some p ↦ Some p ]
+  unfolding pointed_offset
+  pointed-as = grind (arith, Option, ℕ, None, pointed_offset, Some)
 
 pub front-root : (ms : List Placed) → front_size ms [] ≡ 0
 unfolding front_size
 front-root ms = refl
 
-pub pointed-root : (ms : List Placed) → pointed_place ms [] ≡ None
-unfolding pointed_place
+pub pointed-root : (ms : List Placed) → pointed_offset ms [] ≡ None
+unfolding pointed_offset
 pointed-root ms = refl
 
--- a place of a message spells at most one name
+-- an offset of a message spells at most one name
 one_from : {b : Octets} {s i e f : ℕ} {n m : DomainName}
     → RunAt b s i n e → GoesOn b s i m f → n ≡ m
 one_from (ends i at) (at_end root none end) = sym none
@@ -50,14 +51,14 @@ one_from {b}
     {m = m} (jumps i o o' p n e at high at' is from before rest) (at_pointer q d there end run) =
     let one = same_Some there.first o (sym there.first_there ∙ at) in
     let two = same_Some there.second o' (sym there.second_there ∙ at') in
-    let same : q ≡ p = there.place ∙ ap₂ pointer_place one two ∙ sym is in
+    let same : q ≡ p = there.offset ∙ ap₂ pointer_place one two ∙ sym is in
     one_from rest (goes_on_at (subst (λ j. RunAt b j j m d) same run))
 
 pub one_run : {b : Octets} {s i e f : ℕ} {n m : DomainName}
     → RunAt b s i n e → RunAt b s i m f → n ≡ m
 one_run h g = one_from h (goes_on_at g)
 
--- a name that the message spells at a kept place is not the root, and is shared at that place
+-- a name that the message spells at a kept offset is not the root, and is shared at that offset
 pub record FoundAt (ms : List Placed) (n : DomainName) (p : ℕ) : Type 0 where
   pub label : Octets
   pub labels : DomainName
@@ -66,7 +67,7 @@ pub record FoundAt (ms : List Placed) (n : DomainName) (p : ℕ) : Type 0 where
 
 pub found : {head : Octets → ℕ}
     {ms : List Placed} {b : Octets} {ks : List Kept} {p : ℕ} (n : DomainName) → Holds head ms b ks
-    → is_name n ≡ true → HasPlace ks p → SpelledAt b p (wire n) → FoundAt ms n p
+    → is_name n ≡ true → HasOffset ks p → SpelledAt b p (wire n) → FoundAt ms n p
 found {head} {ms} {b} {ks} {p} n holds ok kept there =
     let s = holds.answers.sound p kept.0 kept.1 in
     let run = (holds.spelled s.0 s.1 p s.2).3 in
@@ -78,7 +79,7 @@ found {head} {ms} {b} {ks} {p} n holds ok kept there =
       shared = s.2;
     }
 
--- if the name is spelled at no kept place, it is shared at no place
+-- if the name is spelled at no kept offset, it is shared at no offset
 pub not_found : {head : Octets → ℕ} {ms : List Placed}
     {b : Octets} {ks : List Kept} (l : Octets) (n : DomainName) → Holds head ms b ks
     → NoneSpelled ks (head (wire (l ∷ n))) b (wire (l ∷ n)) → shared_place ms (l ∷ n) ≡ None
@@ -96,7 +97,7 @@ pub record LeftOf (ms : List Placed) (name rest : Octets) (n : DomainName) : Typ
   pub spelled : rest ≡ wire left
   pub is_name : is_name left ≡ true
   pub front : front_size ms n + length rest ≡ length name + front_size ms left
-  pub place : pointed_place ms n ≡ pointed_place ms left
+  pub offset : pointed_offset ms n ≡ pointed_offset ms left
 
 pub record Left
     (head : Octets → ℕ) (b : Octets) (ks : List Kept) (name rest : Octets) : Type 0 where
@@ -144,7 +145,7 @@ left_label {head} {b} {ks} {name} {rest} {after} k left a none = record {
           ap length f.spelled,
           length-append f.label (wire f.labels),
         );
-        place = x.place ∙ ap (pointed_place ms) f.whole ∙ pointed-as ms f.label f.labels out;
+        offset = x.offset ∙ ap (pointed_offset ms) f.whole ∙ pointed-as ms f.label f.labels out;
       };
 }
 
@@ -153,93 +154,96 @@ left_label {head} {b} {ks} {name} {rest} {after} k left a none = record {
 pub left_root : {head : Octets → ℕ} {b : Octets} {ks : List Kept} {name rest : Octets}
     (ms : List Placed) (n : DomainName) → Left head b ks name rest → ((m : DomainName)
     → rest ≡ wire m → is_name m ≡ true → m ≡ []) → Holds head ms b ks → name ≡ wire n
-    → is_name n ≡ true → (front_size ms n ≡ length name - length rest) × (pointed_place ms n ≡ None)
+    → is_name n ≡ true → (front_size ms n ≡ length name - length rest) × (pointed_offset ms n
+    ≡ None)
 left_root {name = name} {rest} ms n left root holds e ok =
     let a = left.all ms n holds e ok in
     let none = root a.left a.spelled a.is_name in
     let front = a.front in (
       omega (arith, front, ap (front_size ms) none, front-root ms),
-      a.place ∙ ap (pointed_place ms) none ∙ pointed-root ms,
+      a.offset ∙ ap (pointed_offset ms) none ∙ pointed-root ms,
     )
 
 pub left_found : {head : Octets → ℕ} {b : Octets} {ks : List Kept}
     {name rest : Octets} (p : ℕ) (ms : List Placed) (n : DomainName) → Left head b ks name rest
-    → HasPlace ks p → SpellsSuffix b p rest → Holds head ms b ks → name ≡ wire n → is_name n ≡ true
-    → (front_size ms n ≡ length name - length rest) × (pointed_place ms n ≡ Some p)
+    → HasOffset ks p → SpellsSuffix b p rest → Holds head ms b ks → name ≡ wire n → is_name n ≡ true
+    → (front_size ms n ≡ length name - length rest) × (pointed_offset ms n ≡ Some p)
 left_found {b = b} {name = name} {rest} p ms n left kept there holds e ok =
     let a = left.all ms n holds e ok in
     let f = found a.left holds a.is_name kept
     (subst (SpelledAt b p) a.spelled (there a.left a.spelled a.is_name)) in
     let front = a.front in (
       omega (arith, front, ap (front_size ms) f.whole, front-as ms f.label f.labels f.shared),
-      a.place ∙ ap (pointed_place ms) f.whole ∙ pointed-as ms f.label f.labels f.shared,
+      a.offset ∙ ap (pointed_offset ms) f.whole ∙ pointed-as ms f.label f.labels f.shared,
     )
 
--- the places that are kept of a name, by the place at which the whole name is shared, if any
+-- the offsets that are kept of a name, by the offset at which the whole name is shared, if any
 module _ (head : Octets → ℕ) (ms : List Placed) (l : Octets) (n : DomainName) (p : ℕ) where
   abbrev kept_by : Option ℕ → List Kept
   kept_by None = cond (nat_le p last_place) (record
-      { place = p; number = head (wire (l ∷ n)) } ∷ new_places head ms n (p + 1 + length l)) []
+      { offset = p; number = head (wire (l ∷ n)) } ∷ new_offsets head ms n (p + 1 + length l)) []
   kept_by (Some q) = []
 
   pub kept-as : {x : Option ℕ}
-      → shared_place ms (l ∷ n) ≡ x → new_places head ms (l ∷ n) p ≡ kept_by x
-  unfolding new_places
+      → shared_place ms (l ∷ n) ≡ x → new_offsets head ms (l ∷ n) p ≡ kept_by x
+  unfolding new_offsets
   kept-as e = ap kept_by e
 
-  pub kept-more : shared_place ms (l ∷ n) ≡ None → p ≤ last_place → new_places head ms (l ∷ n) p
-      ≡ record { place = p; number = head (wire (l ∷ n)) } ∷ new_places head ms n (p + 1 + length l)
-  kept-more e low = kept-as e ∙ ap (λ t. cond t (record { place = p; number = head (wire (l ∷ n)) }
-      ∷ new_places head ms n (p + 1 + length l)) []) (le-leb p last_place low)
+  pub kept-more : shared_place ms (l ∷ n) ≡ None → p ≤ last_place → new_offsets head ms (l ∷ n) p
+      ≡ record { offset = p; number = head (wire (l ∷ n)) } ∷ new_offsets head ms n (p + 1 + length
+      l)
+  kept-more e low = kept-as e ∙ ap (λ t. cond t (record { offset = p; number = head (wire (l ∷ n)) }
+      ∷ new_offsets head ms n (p + 1 + length l)) []) (le-leb p last_place low)
 
   -- nothing is kept beyond the reach of a pointer, or after a shared suffix
-  pub kept-high : last_place < p → new_places head ms (l ∷ n) p ≡ []
+  pub kept-high : last_place < p → new_offsets head ms (l ∷ n) p ≡ []
   kept-high high = go (shared_place ms (l ∷ n)) refl (nat_le p last_place) refl
     where
       go : (x : Option ℕ) → shared_place ms (l ∷ n) ≡ x
-          → (t : Bool) → nat_le p last_place ≡ t → new_places head ms (l ∷ n) p ≡ []
+          → (t : Bool) → nat_le p last_place ≡ t → new_offsets head ms (l ∷ n) p ≡ []
       go None e true q = absurd (let low = leb-true p last_place q in omega (arith, low, high))
       go None e false q = kept-as e
-          ∙ ap (λ t. cond t (record { place = p; number = head (wire (l ∷ n)) } ∷ new_places
+          ∙ ap (λ t. cond t (record { offset = p; number = head (wire (l ∷ n)) } ∷ new_offsets
           head ms n (p + 1 + length l)) []) q
       go (Some r) e t q = kept-as e
 
-  kept-shared : front_size ms (l ∷ n) < 1 + length l → new_places head ms (l ∷ n) p ≡ []
+  kept-shared : front_size ms (l ∷ n) < 1 + length l → new_offsets head ms (l ∷ n) p ≡ []
   kept-shared short = go (shared_place ms (l ∷ n)) refl
     where
-      go : (x : Option ℕ) → shared_place ms (l ∷ n) ≡ x → new_places head ms (l ∷ n) p ≡ []
+      go : (x : Option ℕ) → shared_place ms (l ∷ n) ≡ x → new_offsets head ms (l ∷ n) p ≡ []
       go None e = absurd (omega (arith, short, front-as ms l n e))
       go (Some r) e = kept-as e
 
-pub kept-root : (head : Octets → ℕ) (ms : List Placed) (p : ℕ) → new_places head ms [] p ≡ []
-unfolding new_places
+pub kept-root : (head : Octets → ℕ) (ms : List Placed) (p : ℕ) → new_offsets head ms [] p ≡ []
+unfolding new_offsets
 kept-root head ms p = refl
 
--- The part of a name whose places are left to keep.
+-- The part of a name whose offsets are left to keep.
 pub record KeepOf (head : Octets → ℕ) (ms : List Placed)
-    (old ks : List Kept) (rest : Octets) (front at place : ℕ) (n : DomainName) : Type 0 where
+    (old ks : List Kept) (rest : Octets) (front at offset : ℕ) (n : DomainName) : Type 0 where
   pub left : DomainName
   pub spelled : rest ≡ wire left
   pub is_name : is_name left ≡ true
-  pub kept : old ++ new_places head ms n at ≡ ks ++ new_places head ms left place
-  pub fits : place + front_size ms left ≡ at + front
+  pub kept : old ++ new_offsets head ms n at ≡ ks ++ new_offsets head ms left offset
+  pub fits : offset + front_size ms left ≡ at + front
 
 pub record Keep (head : Octets → ℕ)
-    (old ks : List Kept) (name rest : Octets) (front at place : ℕ) : Type 0 where
-  pub few : 2 * length ks ≤ place
-  pub within : place ≤ at + front
+    (old ks : List Kept) (name rest : Octets) (front at offset : ℕ) : Type 0 where
+  pub few : 2 * length ks ≤ offset
+  pub within : offset ≤ at + front
   pub all : (ms : List Placed) (n : DomainName) → name ≡ wire n
-      → is_name n ≡ true → front ≡ front_size ms n → KeepOf head ms old ks rest front at place n
+      → is_name n ≡ true → front ≡ front_size ms n → KeepOf head ms old ks rest front at offset n
 
 pub keep_begins : (head : Octets → ℕ) (old : List Kept) (name : Octets) (front at : ℕ)
     → 2 * length old ≤ at → Keep head old old name name front at at
 keep_begins head old name front at few = grind arith
 
 pub keep_label : {head : Octets → ℕ} {old ks : List Kept} {name rest after : Octets}
-    {front at place : ℕ} (k h : ℕ) → Keep head old ks name rest front at place → AfterLabel
-    rest k after → place + 1 + k ≤ at + front → place ≤ last_place → h ≡ head rest → Keep head old
-    (ks ++ record { place = place; number = h } ∷ []) name after front at (place + 1 + k)
-keep_label {head} {old} {ks} {name} {rest} {after} {front} {at} {place} k h keep a room low number =
+    {front at offset : ℕ} (k h : ℕ) → Keep head old ks name rest front at offset → AfterLabel
+    rest k after → offset + 1 + k ≤ at + front → offset ≤ last_place → h ≡ head rest → Keep head old
+    (ks ++ record { offset = offset; number = h } ∷ []) name after front at (offset + 1 + k)
+keep_label {head} {old} {ks} {name} {rest} {after} {front} {at} {offset} k h keep a room low number
+    =
     record {
       few = let f = keep.few in
           let positive = pos k a.some in omega (arith, f, positive, length-append ks (one ∷ []));
@@ -249,80 +253,81 @@ keep_label {head} {old} {ks} {name} {rest} {after} {front} {at} {place} k h keep
     }
   where
     one : Kept
-    one = record { place = place; number = h }
+    one = record { offset = offset; number = h }
 
     pos : (j : ℕ) → (j ≡ 0 → ⊥) → 1 ≤ j
     pos zero not_zero = absurd (not_zero refl)
     pos (suc j) not_zero = omega arith
 
-    go : (ms : List Placed) (n : DomainName) (x : KeepOf head ms old ks rest front at place n)
+    go : (ms : List Placed) (n : DomainName) (x : KeepOf head ms old ks rest front at offset n)
         (g : NextLabel x.left rest after k) → (s : Option ℕ) → shared_place ms (g.label ∷ g.labels)
-        ≡ s → KeepOf head ms old (ks ++ one ∷ []) after front at (place + 1 + k) n
+        ≡ s → KeepOf head ms old (ks ++ one ∷ []) after front at (offset + 1 + k) n
     go ms n x g (Some r) q = absurd (let fit = x.fits in
         omega (arith, fit, room, ap (front_size ms) g.whole, front-as ms g.label g.labels q))
     go ms n x g None q =
-        let named : record { place = place; number = head (wire (g.label ∷ g.labels)) } ≡ one =
-        ap (λ j. record { place = place; number = j }) (ap head (sym g.before) ∙ sym number) in
-        let next : place + 1 + length g.label ≡ place + 1 + k =
-        ap (λ j. place + 1 + j) (sym g.long) in
-        let more = kept-more head ms g.label g.labels place q low
-        ∙ ap₂ (λ (y : Kept) j. y ∷ new_places head ms g.labels j) named next in
+        let named : record { offset = offset; number = head (wire (g.label ∷ g.labels)) } ≡ one =
+        ap (λ j. record { offset = offset; number = j }) (ap head (sym g.before) ∙ sym number) in
+        let next : offset + 1 + length g.label ≡ offset + 1 + k =
+        ap (λ j. offset + 1 + j) (sym g.long) in
+        let more = kept-more head ms g.label g.labels offset q low
+        ∙ ap₂ (λ (y : Kept) j. y ∷ new_offsets head ms g.labels j) named next in
         let fit = x.fits in
         record {
           left = g.labels;
           spelled = g.spelled;
           is_name = g.is_name;
-          kept = x.kept ∙ ap (λ y. ks ++ new_places head ms y place) g.whole ∙ ap (λ y. ks ++ y)
-              more ∙ sym (append_assoc ks (one ∷ []) (new_places head ms g.labels (place + 1 + k)));
+          kept = x.kept ∙ ap (λ y. ks ++ new_offsets head ms y offset) g.whole ∙ ap (λ y. ks ++ y)
+              more ∙ sym (append_assoc ks (one ∷ []) (new_offsets head ms g.labels (offset + 1
+              + k)));
           fits = omega
               (arith, fit, ap (front_size ms) g.whole, front-as ms g.label g.labels q, g.long);
         }
 
 -- when the loop ends, nothing is left to keep
-pub keep_root : {head : Octets → ℕ} {old ks : List Kept} {name rest : Octets} {front at place : ℕ}
-    → Keep head old ks name rest front at place → ((m : DomainName) → rest ≡ wire m
+pub keep_root : {head : Octets → ℕ} {old ks : List Kept} {name rest : Octets} {front at offset : ℕ}
+    → Keep head old ks name rest front at offset → ((m : DomainName) → rest ≡ wire m
     → is_name m ≡ true → m ≡ []) → (ms : List Placed) (n : DomainName) → name ≡ wire n
-    → is_name n ≡ true → front ≡ front_size ms n → ks ≡ old ++ new_places head ms n at
-keep_root {head} {old} {ks} {place = place} keep root ms n e ok f =
+    → is_name n ≡ true → front ≡ front_size ms n → ks ≡ old ++ new_offsets head ms n at
+keep_root {head} {old} {ks} {offset = offset} keep root ms n e ok f =
     grind (arith, kept-root, append-nil)
 
-pub keep_high : {head : Octets → ℕ} {old ks : List Kept} {name rest : Octets} {front at place : ℕ}
-    → Keep head old ks name rest front at place
-    → last_place < place → (ms : List Placed) (n : DomainName) → name ≡ wire n
-    → is_name n ≡ true → front ≡ front_size ms n → ks ≡ old ++ new_places head ms n at
-keep_high {head} {old} {ks} {place = place} keep high ms n e ok f =
+pub keep_high : {head : Octets → ℕ} {old ks : List Kept} {name rest : Octets} {front at offset : ℕ}
+    → Keep head old ks name rest front at offset
+    → last_place < offset → (ms : List Placed) (n : DomainName) → name ≡ wire n
+    → is_name n ≡ true → front ≡ front_size ms n → ks ≡ old ++ new_offsets head ms n at
+keep_high {head} {old} {ks} {offset = offset} keep high ms n e ok f =
     let a = keep.all ms n e ok f in
     sym (a.kept ∙ ap (λ x. ks ++ x) (none a.left) ∙ append-nil ks)
   where
-    none : (m : DomainName) → new_places head ms m place ≡ []
-    none [] = kept-root head ms place
-    none (l ∷ m) = kept-high head ms l m place high
+    none : (m : DomainName) → new_offsets head ms m offset ≡ []
+    none [] = kept-root head ms offset
+    none (l ∷ m) = kept-high head ms l m offset high
 
 pub keep_past : {head : Octets → ℕ} {old ks : List Kept} {name rest after : Octets}
-    {front at place : ℕ} (k : ℕ) → Keep head old ks name rest front at place → AfterLabel
-    rest k after → at + front < place + 1 + k → (ms : List Placed) (n : DomainName) → name ≡ wire n
-    → is_name n ≡ true → front ≡ front_size ms n → ks ≡ old ++ new_places head ms n at
-keep_past {head} {old} {ks} {place = place} k keep a past ms n e ok f =
+    {front at offset : ℕ} (k : ℕ) → Keep head old ks name rest front at offset → AfterLabel
+    rest k after → at + front < offset + 1 + k → (ms : List Placed) (n : DomainName) → name ≡ wire n
+    → is_name n ≡ true → front ≡ front_size ms n → ks ≡ old ++ new_offsets head ms n at
+keep_past {head} {old} {ks} {offset = offset} k keep a past ms n e ok f =
     let x = keep.all ms n e ok f in
     let g = next_label x.left x.spelled x.is_name a in
     let fit = x.fits in
-    let none = kept-shared head ms g.label g.labels place
+    let none = kept-shared head ms g.label g.labels offset
     (omega (arith, fit, past, g.long, ap (front_size ms) g.whole)) in
-    sym (x.kept ∙ ap (λ x. ks ++ new_places head ms x place) g.whole
+    sym (x.kept ∙ ap (λ x. ks ++ new_offsets head ms x offset) g.whole
     ∙ ap (λ x. ks ++ x) none ∙ append-nil ks)
 
--- no place is kept of a name that is only a pointer
+-- no offset is kept of a name that is only a pointer
 pub keep_none : (head : Octets → ℕ) (ms : List Placed) (n : DomainName) (at : ℕ) (ks : List Kept)
-    → front_size ms n ≡ 0 → ks ≡ ks ++ new_places head ms n at
+    → front_size ms n ≡ 0 → ks ≡ ks ++ new_offsets head ms n at
 keep_none head ms [] at ks none =
     sym (append-nil ks) ∙ ap (λ x. ks ++ x) (sym (kept-root head ms at))
 keep_none head ms (l ∷ n) at ks none = grind (arith, append-nil, kept-shared)
 
-pub keep_end : {head : Octets → ℕ} {old ks : List Kept} {name rest : Octets} {front at place : ℕ}
-    → Keep head old ks name rest front at place
-    → at + front ≤ place → (ms : List Placed) (n : DomainName) → name ≡ wire n
-    → is_name n ≡ true → front ≡ front_size ms n → ks ≡ old ++ new_places head ms n at
-keep_end {head} {old} {ks} {place = place} keep end ms n e ok f = grind (arith, keep_none)
+pub keep_end : {head : Octets → ℕ} {old ks : List Kept} {name rest : Octets} {front at offset : ℕ}
+    → Keep head old ks name rest front at offset
+    → at + front ≤ offset → (ms : List Placed) (n : DomainName) → name ≡ wire n
+    → is_name n ≡ true → front ≡ front_size ms n → ks ≡ old ++ new_offsets head ms n at
+keep_end {head} {old} {ks} {offset = offset} keep end ms n e ok f = grind (arith, keep_none)
 
 -- octets without a first label are only the root's wire form
 pub root_empty : (o : Octets) (n : DomainName) → o ≡ wire n → length o ≡ 0 → n ≡ []

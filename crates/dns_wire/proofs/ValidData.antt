@@ -44,8 +44,8 @@ few_octets domain os part rest other fits h = absurd (other refl)
 few_octets f os part rest other fits h = absurd (omega arith)
 
 module _ (b : Octets) (e : ℕ) (within : e ≤ length b) where
-  -- what holds for a field that is read from place i up to place j, and for fields that are read
-  -- from place i on
+  -- what holds for a field that is read from offset i up to offset j, and for fields that are read
+  -- from offset i on
   record ReadField (f : Field) (i j : ℕ) (o : Octets) : Type 0 where
     forward : i ≤ j
     inside : j ≤ e

@@ -10,7 +10,7 @@ use Rattle.dns_spec.specs.Layout.{Item, Placed, Laid, records_of, in_section, is
 use Rattle.dns_spec.specs.Laws.{IsAskable}
 use Rattle.dns_wire.specs.Kept.{Kept}
 use Rattle.dns_wire.specs.SuffixNumbers.{suffix_number}
-use Rattle.dns_wire.specs.Writing.{IsAsked, asked_places, Holds, StandsIn, Follows, Layout, records_laid}
+use Rattle.dns_wire.specs.Writing.{IsAsked, asked_offsets, Holds, StandsIn, Follows, Layout, records_laid}
 use Rattle.dns_wire.specs.declared.message.Counts.{Counts}
 use Rattle.dns_wire.specs.declared.message_builder.Section.{Section}
 use Rattle.dns_wire.specs.declared.message_builder.Section.TheVariants.{Answer, Authority, Additional}
@@ -51,8 +51,8 @@ item_of section owner ttl set =
 abbrev pub with_set : List Item → Section → DomainName → ℕ → RecordSet → List Item
 with_set items section owner ttl set = items ++ item_of section owner ttl set ∷ []
 
--- a message being written: its limit, its octets, which begin with room for a header, the place
--- where its question's name ends, the places kept of names after the question, and the counts for
+-- a message being written: its limit, its octets, which begin with room for a header, the offset
+-- where its question's name ends, the offsets kept of names after the question, and the counts for
 -- its header
 pub record PartialMessage : Type 0 where
   pub limit : ℕ
@@ -75,19 +75,19 @@ empty_message limit = record {
   counts = record { questions = 0; answers = 0; authorities = 0; additionals = 0 };
 }
 
--- the places of the suffixes of the question's name, and those kept of later names
-abbrev pub known_places : (Octets → ℕ) → PartialMessage → List Kept
-known_places number d = asked_places number d.octets d.asked_end ++ d.kept
+-- the offsets of the suffixes of the question's name, and those kept of later names
+abbrev pub known_offsets : (Octets → ℕ) → PartialMessage → List Kept
+known_offsets number d = asked_offsets number d.octets d.asked_end ++ d.kept
 
 -- the message so far, with more octets at its end
 abbrev pub with_octets : PartialMessage → Octets → PartialMessage
 with_octets d o = record d { octets = d.octets ++ o }
 
--- the message so far has the names `ms`, and its places are kept with numbers that use this hash
+-- the message so far has the names `ms`, and its offsets are kept with numbers that use this hash
 abbrev pub HasNames : PartialMessage → (Octets → ℕ) → List Placed → Type 0
-HasNames d head ms = Holds (suffix_number head) ms d.octets (known_places (suffix_number head) d)
+HasNames d head ms = Holds (suffix_number head) ms d.octets (known_offsets (suffix_number head) d)
 
--- What a step of writing preserves: octets and places are only appended, and everything else is as
+-- What a step of writing preserves: octets and offsets are only appended, and everything else is as
 -- it was.
 pub record Grows (old new : PartialMessage) : Type 0 where
   pub octets : Follows old.octets new.octets
@@ -104,8 +104,8 @@ pub record IsWritten (number : Octets → ℕ) (ms : List Placed) (old new : Par
   pub exactly : IsTrue fits ↔ (length (old.octets ++ laid.written) ≤ old.limit)
   pub written : OnTrue fits (new.octets ≡ old.octets ++ laid.written)
   pub stands : OnTrue fits ((x : Octets) → length x ≡ length old.octets
-      → Holds number ms x (known_places number old)
-      → StandsIn number ms x laid (known_places number new))
+      → Holds number ms x (known_offsets number old)
+      → StandsIn number ms x laid (known_offsets number new))
 
 -- A step that writes what `layout` gives after the names so far, provided that `known` holds for
 -- them. The caller's hash gives the same numbers before and after the step.
@@ -120,7 +120,7 @@ pub record WritesAfter (known : List Placed → Type 0) (head head' : Octets →
 abbrev pub Writes : (Octets → ℕ) → (Octets → ℕ) → PartialMessage → PartialMessage → Layout → Bool → Type 0
 Writes = WritesAfter (λ ms. ⊤)
 
--- the names of the records so far, with their places
+-- the names of the records so far, with their offsets
 abbrev pub names_so_far : Option MessageQuestion → List Item → List Placed
 names_so_far q items =
     asked_placed q
@@ -136,7 +136,7 @@ pub record IsPartial (head : Octets → ℕ) (q : Option MessageQuestion) (items
   pub counts : d.counts ≡ counts_of q items
   pub askable : IfSome q IsAskable
 
--- What always holds for a builder with room for N places and `size` octets. Its limit is at most
+-- What always holds for a builder with room for N offsets and `size` octets. Its limit is at most
 -- `size`, and any question fits within it. The message never has more records than octets.
 pub record IsWellKept (N size : ℕ) (d : PartialMessage) : Type 0 where
   pub least : 512 ≤ d.limit

@@ -21,7 +21,7 @@ as_borrowed borrowed.Absent = spec.absent
 as_borrowed (borrowed.Refused head) = spec.refused_with head
 as_borrowed (borrowed.Query head question) = spec.query head question
 
--- the name after the header ends at this place
+-- the name after the header ends at this offset
 pub record NameEnds (d : Octets) (end : ℕ) : Type 0 where
   pub name : DomainName
   pub read : name_at d 12 ≡ Some (name, end)

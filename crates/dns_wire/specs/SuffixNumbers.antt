@@ -1,4 +1,4 @@
--- The number of a suffix, which distinguishes its places from the places of other suffixes.
+-- The number of a suffix, which distinguishes its offsets from the offsets of other suffixes.
 use Rattle.std.specs.Prelude.{ℕ, zero, suc, ◌+◌, ◌-◌, ◌*◌, ◌/◌, ◌%◌, ◌^◌, nat_le, length, take, drop, if◌then◌else◌}
 use Rattle.std.specs.Int.{from_le_bytes, w64}
 use Rattle.std.specs.Int.Bits.{bit_xor}

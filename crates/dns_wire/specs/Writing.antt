@@ -1,5 +1,5 @@
--- How a writer lays out a name, which places it keeps for later names, and what must hold for
--- these places and for the octets written so far, so that later names share correctly.
+-- How a writer lays out a name, which offsets it keeps for later names, and what must hold for
+-- these offsets and for the octets written so far, so that later names share correctly.
 use Rattle.std.specs.Prelude.{◌≡◌, ℕ, zero, suc, Bool, IsFalse, IfSome, ◌+◌, ◌<◌, ◌≤◌, List, [], ◌∷◌, ◌++◌, ◌-◌, length, take, drop, nat_le, IsTrue, if◌then◌else◌}
 use Rattle.std.specs.Prelude.{Option, None, Some}
 use Rattle.dns_spec.specs.Names.{Octets, DomainName, wire, is_name}
@@ -8,6 +8,7 @@ use Rattle.dns_spec.specs.Records.{ResourceRecord}
 use Rattle.dns_spec.specs.NamesInMessages.{RunAt}
 use Rattle.dns_spec.specs.Layout.{Placed, Laid, laid_front, data_laid, record_laid, record_tail, pointer, place_of, last_place, shared_octets, shared_place}
 use Rattle.dns_name.specs.WireForm.{labels_of, IsWireForm}
+use Rattle.dns_wire.specs.declared.suffixes.NameForm.{NameForm}
 use Rattle.dns_wire.specs.Kept.{Kept, IsKept, SpelledAt}
 
 -- octets begin with a length k other than 0, and `after` is what follows the next k octets
@@ -24,28 +25,31 @@ front_size ms [] = 0
 front_size ms (l ∷ n) =
     elim (shared_place ms (l ∷ n)) [ None ↦ 1 + length l + front_size ms n | Some p ↦ 0 ]
 
--- the place of the suffix that a name shares, if it shares one
-unfoldable pub pointed_place : List Placed → DomainName → Option ℕ
-pointed_place ms [] = None
-pointed_place ms (l ∷ n) =
-    elim (shared_place ms (l ∷ n)) [ None ↦ pointed_place ms n | Some p ↦ Some p ]
+-- the offset of the suffix that a name shares, if it shares one
+unfoldable pub pointed_offset : List Placed → DomainName → Option ℕ
+pointed_offset ms [] = None
+pointed_offset ms (l ∷ n) =
+    elim (shared_place ms (l ∷ n)) [ None ↦ pointed_offset ms n | Some p ↦ Some p ]
 
 -- how a name is laid out: the number of octets of its labels before the suffix that it shares, and
--- the place of that suffix
+-- the offset of that suffix
 abbrev pub Form : Type 0
 Form = ℕ × Option ℕ
 
-abbrev pub IsLaid : List Placed → DomainName → Form → Type 0
-IsLaid ms n form = (front_size ms n ≡ form.0) × (pointed_place ms n ≡ form.1)
+abbrev pub shown_form : NameForm → Form
+shown_form form = (form.front, form.pointer)
 
--- the octets are long enough for the form, and a pointer reaches its place
+abbrev pub IsLaid : List Placed → DomainName → Form → Type 0
+IsLaid ms n form = (front_size ms n ≡ form.0) × (pointed_offset ms n ≡ form.1)
+
+-- the octets are long enough for the form, and a pointer reaches its offset
 pub record IsForm (o : Octets) (form : Form) : Type 0 where
   pub inside : form.0 ≤ length o
   pub reached : IfSome form.1 (λ p. p < 16384)
 
--- How a name is laid out again, after it was laid out in this form at a place: as a pointer to that
--- place, if some of its labels are written there and a pointer reaches the place; otherwise in the
--- same form.
+-- How a name is laid out again, after it was laid out in this form at an offset: as a pointer to
+-- that offset, if some of its labels are written there and a pointer reaches the offset; otherwise
+-- in the same form.
 abbrev pub form_again : ℕ → Form → Form
 form_again at (zero, p) = (zero, p)
 form_again at (suc k, p) = if nat_le at last_place then (zero, Some at) else (suc k, p)
@@ -59,45 +63,45 @@ abbrev pub end_octets : Option ℕ → Octets
 end_octets None = 0 ∷ []
 end_octets (Some p) = pointer p
 
--- the places that are kept of a name laid out from place p on: the places where its suffixes begin
--- before the shared one, as far as a pointer reaches
-unfoldable pub new_places : (Octets → ℕ) → List Placed → DomainName → ℕ → List Kept
-new_places number ms [] p = []
-new_places number ms (l ∷ n) p = elim (shared_place ms (l ∷ n)) [
+-- the offsets that are kept of a name laid out from offset p on: the offsets where its suffixes
+-- begin before the shared one, as far as a pointer reaches
+unfoldable pub new_offsets : (Octets → ℕ) → List Placed → DomainName → ℕ → List Kept
+new_offsets number ms [] p = []
+new_offsets number ms (l ∷ n) p = elim (shared_place ms (l ∷ n)) [
   | None ↦ if nat_le p last_place
-      then record { place = p; number = number (wire (l ∷ n)) }
-      ∷ new_places number ms n (p + 1 + length l)
+      then record { offset = p; number = number (wire (l ∷ n)) }
+      ∷ new_offsets number ms n (p + 1 + length l)
       else []
   | Some q ↦ []
 ]
 
--- the octets of the question's name, which ends at place a; none if the header ends there
+-- the octets of the question's name, which ends at offset a; none if the header ends there
 abbrev pub name_before : Octets → ℕ → Octets
 name_before b a = take (a - 12) (drop 12 b)
 
--- The question's name ends at place a; or the header ends there, and no question is written.
+-- The question's name ends at offset a; or the header ends there, and no question is written.
 pub record IsAsked (b : Octets) (a : ℕ) : Type 0 where
   pub after : 12 ≤ a
   pub inside : a ≤ length b
   pub near : a ≤ 267
   pub name : 12 < a → IsWireForm (name_before b a)
 
--- the places of the suffixes of the question's name, each with the number of the suffix
-unfoldable pub asked_places : (Octets → ℕ) → Octets → ℕ → List Kept
-asked_places number b a = new_places number [] (labels_of (name_before b a)) 12
+-- the offsets of the suffixes of the question's name, each with the number of the suffix
+unfoldable pub asked_offsets : (Octets → ℕ) → Octets → ℕ → List Kept
+asked_offsets number b a = new_offsets number [] (labels_of (name_before b a)) 12
 
--- the message spells these octets at no place of the question's name
+-- the message spells these octets at no offset of the question's name
 abbrev pub NotAsked : Octets → ℕ → Octets → Type 0
 NotAsked b a o =
-    (number : Octets → ℕ) (p h : ℕ) → IsKept (asked_places number b a) p h → SpelledAt b p o → ⊥
+    (number : Octets → ℕ) (p h : ℕ) → IsKept (asked_offsets number b a) p h → SpelledAt b p o → ⊥
 
 -- if the octets are the wire form of a name, `last` is the wire form of a suffix of it
 abbrev pub IsLastOf : Octets → Octets → Type 0
 IsLastOf o last = (n : DomainName) → o ≡ wire n → IsTrue (is_name n)
     → (front : DomainName) × (n' : DomainName) × (n ≡ front ++ n') × (last ≡ wire n')
 
--- The places in `ks` are exactly those at which suffixes of the names `ms` can be shared, each with
--- the number of its suffix.
+-- The offsets in `ks` are exactly those at which suffixes of the names `ms` can be shared, each
+-- with the number of its suffix.
 pub record Answers (number : Octets → ℕ) (ms : List Placed) (ks : List Kept) : Type 0 where
   pub complete : (l : Octets) (n : DomainName) (p : ℕ) → shared_place ms (l ∷ n) ≡ Some p
       → IsKept ks p (number (wire (l ∷ n)))
@@ -105,7 +109,7 @@ pub record Answers (number : Octets → ℕ) (ms : List Placed) (ks : List Kept)
       → (l : Octets) × (n : DomainName) × (shared_place ms (l ∷ n) ≡ Some p)
       × IsTrue (is_name (l ∷ n))
 
--- At each place where a suffix can be shared, the message b spells that suffix. The places of all
+-- At each offset where a suffix can be shared, the message b spells that suffix. The offsets of all
 -- names are in the message.
 pub record Holds (number : Octets → ℕ) (ms : List Placed) (b : Octets) (ks : List Kept)
     : Type 0 where
@@ -125,7 +129,7 @@ pub record Follows {A : Type 0} (xs ys : List A) : Type 0 where
   pub more : List A
   pub whole : ys ≡ xs ++ more
 
--- how something is laid out from a place on, after earlier names
+-- how something is laid out from an offset on, after earlier names
 abbrev pub Layout : Type 0
 Layout = List Placed → ℕ → Laid
 
@@ -147,7 +151,7 @@ tail_laid rtype ttl rdata ms p =
     let d = parts_laid rtype rdata ms (p + 10) in
     record { written = record_tail (shown [] rtype ttl rdata) d.written; names = d.names }
 
--- records laid out from place p on, with their names
+-- records laid out from offset p on, with their names
 unfoldable pub records_laid : List ResourceRecord → Layout
 records_laid [] ms p = record { written = []; names = [] }
 records_laid (r ∷ rs) ms p =

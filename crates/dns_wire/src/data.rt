@@ -13,7 +13,7 @@ use crate::wire_fault::WireFault;
 use dns_rdata::{Field, Part, RType, fields_of_type, first_part};
 use std::alloc::Global;
 
-/// Reads the data of a record, from place `at` up to place `end`, and returns it without
+/// Reads the data of a record, from offset `at` up to offset `end`, and returns it without
 /// compression.
 ///
 /// Data of a class other than IN is any octets. Fails with `BadData` if the octets do not exactly
@@ -40,7 +40,7 @@ pub(crate) fn read_data(
         (FieldsFault message.now (data_fields rtype.0 rclass) at end (fault_code fault))) }
 {
     let mut data = Vec::new(alloc);
-    let mut place = at;
+    let mut offset = at;
     // Types have their own forms only in class IN.
     let mut fields = if rclass == CLASS_IN {
         fields_of_type(rtype)
@@ -48,16 +48,16 @@ pub(crate) fn read_data(
         &[Field::Anything]
     };
     'fields: while let Some((field, others)) = fields.split_first() {
-        place = read_field(message, *field, place, end, &mut data)?;
+        offset = read_field(message, *field, offset, end, &mut data)?;
         fields = others;
     }
-    if place != end {
+    if offset != end {
         return Err(WireFault::BadData);
     }
     Ok(data)
 }
 
-// Appends the field at place `at` to `written`, and returns the place after the field, at most
+// Appends the field at offset `at` to `written`, and returns the offset after the field, at most
 // `end`. A domain name is appended without compression.
 fn read_field(
     message: &[u8],
@@ -69,20 +69,20 @@ fn read_field(
     requires ordered { at ≤ end }
     requires within { end ≤ length message.now }
     ensures ok { IfOk result
-        (λ place. IsFieldRead message.now (field_of field) at end
-        written.old.items written.new.items place) }
+        (λ offset. IsFieldRead message.now (field_of field) at end
+        written.old.items written.new.items offset) }
     ensures err { IfErr result
         (λ fault. UnlessNoMemory fault (field_at message.now (field_of field) at end ≡ None)) }
     ensures fault { IfErr result (λ fault. UnlessNoMemory fault
         (FieldFault message.now (field_of field) at (fault_code fault))) }
 {
     if let Field::Domain = field {
-        let (name, place) = read_name(message, at)?;
-        if place > end {
+        let (name, offset) = read_name(message, at)?;
+        if offset > end {
             return Err(WireFault::BadData);
         }
         written.extend_from_slice(name.octets())?;
-        return Ok(place);
+        return Ok(offset);
     }
     let (_, rest) = message.split_at(at);
     let (own, _) = rest.split_at(end - at);

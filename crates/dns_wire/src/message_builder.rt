@@ -8,12 +8,12 @@ ghost use Rattle.dns_spec.specs.Layout.{Item, Placed, layout, header_octets, mes
 ghost use Rattle.dns_spec.specs.LayoutSize.{size};
 ghost use Rattle.dns_spec.specs.Laws.{sections_in_order, IsWritable};
 ghost use Rattle.dns_spec.specs.Sharing.{Sharing};
-ghost use Rattle.dns_wire.specs.Writing.{IsAsked, IsForm, IsLaid, IsLaidAs, form_again, end_octets, shown, octets_laid, name_laid, parts_laid, tail_laid};
+ghost use Rattle.dns_wire.specs.Writing.{IsAsked, IsForm, IsLaid, IsLaidAs, form_again, end_octets, shown, octets_laid, name_laid, shown_form, parts_laid, tail_laid};
 ghost use Rattle.dns_wire.specs.PartialMessage.{with_counted, with_octets, HasNames, Writes, WritesAfter};
 
 use crate::message::{CLASS_IN, Counts, HEADER_OCTETS, Head, QuestionRef};
 use crate::suffix_offsets::{SuffixHash, SuffixOffsets};
-use crate::suffixes::{LAST_OFFSET, keep_suffixes, offset_before, shared_suffix};
+use crate::suffixes::{LAST_OFFSET, NameForm, keep_suffixes, offset_before, shared_suffix};
 use arrayvec::ArrayVec;
 use byteorder::{BigEndian, ByteOrder};
 use dns_name::NameRef;
@@ -37,11 +37,10 @@ pub enum Section {
 pub struct MessageBuilder<const N: usize, const SIZE: usize> {
     octets: ArrayVec<u8, SIZE>,
     // The offsets of the suffixes of names after the question, which later names may point to.
-    places: SuffixOffsets<N>,
+    offsets: SuffixOffsets<N>,
     limit: usize,
-    // The place where the question's name ends; without a question, the place where the header
-    // ends. `places` has none of the suffixes of that name, since their offsets follow from this
-    // one.
+    // The offset where the question's name ends; without a question, the offset where the header
+    // ends. `offsets` has none of the suffixes of that name, since `offset_before` computes them.
     asked_end: usize,
     counts: Counts,
 }
@@ -51,10 +50,10 @@ impl<const N: usize, const SIZE: usize> Model for MessageBuilder<N, SIZE> {
 
     ghost Value = { PartialMessage };
 
-    ghost view = { λ p. partial_of p.limit p.octets.items p.asked_end p.places p.counts };
+    ghost view = { λ p. partial_of p.limit p.octets.items p.asked_end p.offsets p.counts };
 
     ghost invariant = { λ p. IsWellKept N SIZE
-        (partial_of p.limit p.octets.items p.asked_end p.places p.counts) };
+        (partial_of p.limit p.octets.items p.asked_end p.offsets p.counts) };
 }
 
 impl<const N: usize, const SIZE: usize> MessageBuilder<N, SIZE> {
@@ -69,7 +68,7 @@ impl<const N: usize, const SIZE: usize> MessageBuilder<N, SIZE> {
         requires from { 512 ≤ limit }
         requires upto { limit ≤ 65535 }
         requires octets { limit ≤ SIZE }
-        requires places { min SIZE 16384 ≤ 2 * N }
+        requires offsets { min SIZE 16384 ≤ 2 * N }
         requires most { N ≤ 8192 }
         ensures { result ≡ empty_message limit }
     {
@@ -77,7 +76,7 @@ impl<const N: usize, const SIZE: usize> MessageBuilder<N, SIZE> {
         extend(&mut octets, &[0; HEADER_OCTETS]);
         MessageBuilder {
             octets,
-            places: SuffixOffsets::new(),
+            offsets: SuffixOffsets::new(),
             limit,
             asked_end: HEADER_OCTETS,
             counts: Counts::default(),
@@ -91,7 +90,7 @@ impl<const N: usize, const SIZE: usize> MessageBuilder<N, SIZE> {
     {
         self.octets.truncate(0);
         extend(&mut self.octets, &[0; HEADER_OCTETS]);
-        self.places.take_back(0);
+        self.offsets.take_back(0);
         self.asked_end = HEADER_OCTETS;
         self.counts = Counts::default();
     }
@@ -122,31 +121,31 @@ impl<const N: usize, const SIZE: usize> MessageBuilder<N, SIZE> {
         set: &S,
     ) -> bool
         ensures fits { (q : Option MessageQuestion) (items : List Item)
-            → IsPartial (H.numbers hash.old) q items self.old → IsTrue result
+            → IsPartial (H.hashes hash.old) q items self.old → IsTrue result
             ↔ (size q (with_set items section owner.now ttl (S.set set.now)) ≤ self.old.limit) }
         ensures put { (q : Option MessageQuestion) (items : List Item) → IsPartial
-            (H.numbers hash.old) q items self.old → OnTrue result (IsPartial (H.numbers hash.old) q
+            (H.hashes hash.old) q items self.old → OnTrue result (IsPartial (H.hashes hash.old) q
             (with_set items section owner.now ttl (S.set set.now)) self.new) }
         ensures least { (q : Option MessageQuestion) (items : List Item)
-            → IsPartial (H.numbers hash.old) q items self.old → self.old.limit ≤ 16384
+            → IsPartial (H.hashes hash.old) q items self.old → self.old.limit ≤ 16384
             → IsFalse result ↔ ((z : ℕ) → Sharing q
             (with_set items section owner.now ttl (S.set set.now)) z → self.old.limit < z) }
         ensures unchanged { OnFalse result (self.new ≡ self.old) }
         ensures limit { self.new.limit ≡ self.old.limit }
-        ensures same { H.numbers hash.new ≡ H.numbers hash.old }
+        ensures same { H.hashes hash.new ≡ H.hashes hash.old }
     {
-        let (octets, places) = (self.octets.len(), self.places.len());
+        let (octets, offsets) = (self.octets.len(), self.offsets.len());
         // Each record has at least 10 octets after its owner.
         if (self.limit - octets) / 10 < set.len() {
             return false;
         }
-        let (rtype, form) = (set.rtype(), &mut (0, None));
+        let (rtype, form) = (set.rtype(), &mut NameForm::default());
         let shares = rtype.compresses();
         'records: for i in 0..set.len() {
             let (first, rdata) = (i == 0, set.rdata(i));
             if !self.put_record(hash, owner, first, octets, form, rtype, shares, ttl, rdata) {
                 self.octets.truncate(octets);
-                self.places.take_back(places);
+                self.offsets.take_back(offsets);
                 return false;
             }
         }
@@ -175,7 +174,7 @@ impl<const N: usize, const SIZE: usize> MessageBuilder<N, SIZE> {
         self.octets.as_slice()
     }
 
-    // Writes a record of class IN, of a set whose first record begins at place `start`. Returns
+    // Writes a record of class IN, of a set whose first record begins at offset `start`. Returns
     // false if the record does not fit; a part of it may then have been written. `form` says how
     // the owner of the set's first record is laid out: the first record sets it, and the others use
     // it.
@@ -185,7 +184,7 @@ impl<const N: usize, const SIZE: usize> MessageBuilder<N, SIZE> {
         owner: &NameRef<'_>,
         first: bool,
         start: usize,
-        form: &mut (usize, Option<u16>),
+        form: &mut NameForm,
         rtype: RType,
         shares: bool,
         ttl: u32,
@@ -193,16 +192,18 @@ impl<const N: usize, const SIZE: usize> MessageBuilder<N, SIZE> {
     ) -> bool
         requires valid { Valid rtype.0 rdata.now }
         requires shares { shares ≡ compresses rtype.0 }
-        requires form { IsForm (wire owner.now) form.old }
+        requires form { IsForm (wire owner.now) (shown_form form.old) }
         requires start { start ≤ length self.old.octets }
-        ensures writes { WritesAfter (IsLaidAs owner.now first (form_again start form.old))
-            (H.numbers hash.old) (H.numbers hash.new) self.old self.new
+        ensures writes { WritesAfter
+            (IsLaidAs owner.now first (form_again start (shown_form form.old)))
+            (H.hashes hash.old) (H.hashes hash.new) self.old self.new
             (λ ms p. record_laid ms p (shown owner.now rtype.0 ttl rdata.now)) result }
         ensures longer { OnTrue result
             (length self.old.octets + 10 ≤ length self.new.octets) }
-        ensures form { IsForm (wire owner.now) form.new }
+        ensures form { IsForm (wire owner.now) (shown_form form.new) }
         ensures first { IsTrue first → OnTrue result ((ms : List Placed)
-            → HasNames self.old (H.numbers hash.old) ms → IsLaid ms owner.now form.new) }
+            → HasNames self.old (H.hashes hash.old) ms
+            → IsLaid ms owner.now (shown_form form.new)) }
         ensures others { IsFalse first → form.new ≡ form.old }
     {
         if !self.put_owner(hash, owner, first, start, form) {
@@ -227,7 +228,7 @@ impl<const N: usize, const SIZE: usize> MessageBuilder<N, SIZE> {
     ) -> bool
         requires valid { Valid rtype.0 rdata.now }
         requires shared { IsTrue (compresses rtype.0) }
-        ensures writes { Writes (H.numbers hash.old) (H.numbers hash.new) self.old self.new
+        ensures writes { Writes (H.hashes hash.old) (H.hashes hash.new) self.old self.new
             (tail_laid rtype.0 ttl rdata.now) result }
         ensures longer { OnTrue result
             (length self.old.octets + 10 ≤ length self.new.octets) }
@@ -252,7 +253,7 @@ impl<const N: usize, const SIZE: usize> MessageBuilder<N, SIZE> {
     fn put_data<H: SuffixHash>(&mut self, hash: &mut H, rtype: RType, rdata: &[u8]) -> bool
         requires valid { Valid rtype.0 rdata.now }
         requires shared { IsTrue (compresses rtype.0) }
-        ensures { Writes (H.numbers hash.old) (H.numbers hash.new) self.old self.new
+        ensures { Writes (H.hashes hash.old) (H.hashes hash.new) self.old self.new
             (parts_laid rtype.0 rdata.now) result }
     {
         if rtype == RType::MX {
@@ -286,95 +287,92 @@ impl<const N: usize, const SIZE: usize> MessageBuilder<N, SIZE> {
         owner: &NameRef<'_>,
         first: bool,
         start: usize,
-        form: &mut (usize, Option<u16>),
+        form: &mut NameForm,
     ) -> bool
-        requires form { IsForm (wire owner.now) form.old }
+        requires form { IsForm (wire owner.now) (shown_form form.old) }
         requires start { start ≤ length self.old.octets }
-        ensures writes { WritesAfter (IsLaidAs owner.now first (form_again start form.old))
-            (H.numbers hash.old) (H.numbers hash.new) self.old self.new
+        ensures writes { WritesAfter
+            (IsLaidAs owner.now first (form_again start (shown_form form.old)))
+            (H.hashes hash.old) (H.hashes hash.new) self.old self.new
             (name_laid owner.now) result }
-        ensures form { IsForm (wire owner.now) form.new }
+        ensures form { IsForm (wire owner.now) (shown_form form.new) }
         ensures first { IsTrue first → OnTrue result ((ms : List Placed)
-            → HasNames self.old (H.numbers hash.old) ms → IsLaid ms owner.now form.new) }
+            → HasNames self.old (H.hashes hash.old) ms
+            → IsLaid ms owner.now (shown_form form.new)) }
         ensures others { IsFalse first → form.new ≡ form.old }
     {
         let name = owner.octets();
         if !first {
-            let (before, place) = *form;
-            if before > 0 && start <= LAST_OFFSET {
+            let NameForm { front, pointer } = *form;
+            if front > 0 && start <= LAST_OFFSET {
                 return self.append_end(&[], Some(start as u16));
             }
-            let (front, _) = name.split_at(before);
-            return self.append_end(front, place);
+            let (labels, _) = name.split_at(front);
+            return self.append_end(labels, pointer);
         }
         // Most owners are the question's name or a suffix of it.
-        let Some(place) = offset_before(self.octets.as_slice(), self.asked_end, name) else {
+        let Some(offset) = offset_before(self.octets.as_slice(), self.asked_end, name) else {
             return self.lay_name(hash, name, form);
         };
-        *form = (0, Some(place));
-        self.append_end(&[], Some(place))
+        let pointer = Some(offset);
+        *form = NameForm { front: 0, pointer };
+        self.append_end(&[], pointer)
     }
 
     // Writes a name in data.
     fn put_name<H: SuffixHash>(&mut self, hash: &mut H, name: &[u8]) -> bool
         ensures { (n : DomainName) → name.now ≡ wire n → IsTrue (is_name n)
-            → Writes (H.numbers hash.old) (H.numbers hash.new) self.old self.new (name_laid n)
+            → Writes (H.hashes hash.old) (H.hashes hash.new) self.old self.new (name_laid n)
             result }
     {
-        self.lay_name(hash, name, &mut (0, None))
+        self.lay_name(hash, name, &mut NameForm::default())
     }
 
     // Writes a name, given in its wire form: the labels before its longest suffix that a pointer
     // may replace, and that pointer; or the whole name, if there is no such suffix. If they do not
-    // fit, writes nothing and returns false. `form` gets the number of octets of the labels
-    // written, and the suffix's place, if there is one.
+    // fit, writes nothing and returns false. `form` becomes the name's layout.
     #[inline(never)]
-    fn lay_name<H: SuffixHash>(
-        &mut self,
-        hash: &mut H,
-        name: &[u8],
-        form: &mut (usize, Option<u16>),
-    ) -> bool
-        requires { IsForm name.now form.old }
+    fn lay_name<H: SuffixHash>(&mut self, hash: &mut H, name: &[u8], form: &mut NameForm) -> bool
+        requires { IsForm name.now (shown_form form.old) }
         ensures writes { (n : DomainName) → name.now ≡ wire n → IsTrue (is_name n)
-            → Writes (H.numbers hash.old) (H.numbers hash.new) self.old self.new (name_laid n)
+            → Writes (H.hashes hash.old) (H.hashes hash.new) self.old self.new (name_laid n)
             result }
-        ensures form { IsForm name.now form.new }
+        ensures form { IsForm name.now (shown_form form.new) }
         ensures laid { OnTrue result ((ms : List Placed) (n : DomainName)
-            → HasNames self.old (H.numbers hash.old) ms → name.now ≡ wire n → IsTrue (is_name n)
-            → IsLaid ms n form.new) }
+            → HasNames self.old (H.hashes hash.old) ms → name.now ≡ wire n → IsTrue (is_name n)
+            → IsLaid ms n (shown_form form.new)) }
     {
         let message = self.octets.as_slice();
         let at = self.octets.len();
         let room = self.limit - at;
-        let laid = shared_suffix(&self.places, message, hash, name, self.asked_end, room);
-        let Some((before, place)) = laid else {
+        let found = shared_suffix(&self.offsets, message, hash, name, self.asked_end, room);
+        let Some(laid) = found else {
             return false;
         };
-        let (front, _) = name.split_at(before);
-        if !self.append_end(front, place) {
+        let (labels, _) = name.split_at(laid.front);
+        if !self.append_end(labels, laid.pointer) {
             return false;
         }
-        keep_suffixes(&mut self.places, hash, name, before, at);
-        *form = (before, place);
+        keep_suffixes(&mut self.offsets, hash, name, laid.front, at);
+        *form = laid;
         true
     }
 
-    // Appends the front of a name, and its end: a pointer to `place` (RFC 1035 4.1.4) or, if that
-    // is `None`, the root's length. If they do not fit the limit, appends nothing and returns
-    // false.
-    fn append_end(&mut self, front: &[u8], place: Option<u16>) -> bool
-        requires { IfSome place (λ p. p < 16384) }
+    // Appends the labels at the front of a name, and its end: a pointer to the offset `pointer`
+    // (RFC 1035 4.1.4) or, if that is `None`, the root's length. If they do not fit the limit,
+    // appends nothing and returns false.
+    fn append_end(&mut self, labels: &[u8], pointer: Option<u16>) -> bool
+        requires { IfSome pointer (λ p. p < 16384) }
         ensures fits { IsTrue result ↔ (length self.old.octets
-            + (length front.now + length (end_octets place)) ≤ self.old.limit) }
+            + (length labels.now + length (end_octets pointer)) ≤ self.old.limit) }
         ensures put { OnTrue result
-            (self.new ≡ with_octets self.old (front.now ++ end_octets place)) }
+            (self.new ≡ with_octets self.old (labels.now ++ end_octets pointer)) }
         ensures unchanged { OnFalse result (self.new ≡ self.old) }
         ensures asked { IsAsked self.old.octets self.old.asked_end }
     {
-        match place {
-            Some(place) => self.append(front, &(0xc000 + place).to_be_bytes()),
-            None => self.append(front, &[0]),
+        match pointer {
+            Some(offset) => self.append(labels, &(0xc000 + offset).to_be_bytes()),
+            None => self.append(labels, &[0]),
         }
     }
 

@@ -5,7 +5,7 @@ ghost use Rattle.dns_wire.specs.WireFault.{fault_code};
 
 use crate::wire_fault::WireFault;
 
-/// The 16 bits at place `at`. Fails with `Short` if the message ends before two octets are read.
+/// The 16 bits at offset `at`. Fails with `Short` if the message ends before two octets are read.
 pub(crate) fn read_u16(message: &[u8], at: usize) -> Result<u16, WireFault>
     requires { at ≤ length message.now }
     ensures ok { IfOk result (λ number. number ≡ field16 message.now at) }
@@ -16,7 +16,7 @@ pub(crate) fn read_u16(message: &[u8], at: usize) -> Result<u16, WireFault>
     Ok(u16::from_be_bytes(octets_at(message, at)?))
 }
 
-/// The 32 bits at place `at`. Fails with `Short` if the message ends before four octets are read.
+/// The 32 bits at offset `at`. Fails with `Short` if the message ends before four octets are read.
 pub(crate) fn read_u32(message: &[u8], at: usize) -> Result<u32, WireFault>
     requires { at ≤ length message.now }
     ensures ok { IfOk result (λ number. number ≡ field32 message.now at) }
@@ -27,7 +27,7 @@ pub(crate) fn read_u32(message: &[u8], at: usize) -> Result<u32, WireFault>
     Ok(u32::from_be_bytes(octets_at(message, at)?))
 }
 
-// The `N` octets from place `at` on.
+// The `N` octets from offset `at` on.
 fn octets_at<const N: usize>(message: &[u8], at: usize) -> Result<[u8; N], WireFault>
     requires { at ≤ length message.now }
     ensures ok { IfOk result (λ octets. octets ≡ take N (drop at message.now)) }

@@ -34,8 +34,8 @@ pub enum QueryRef<'d> {
 // The most octets of a label (RFC 1035 2.3.4).
 const MOST_LABEL: usize = 63;
 
-// The last place at which the final octet of the question's name may be, since the name has at most
-// 255 octets (RFC 1035 2.3.4).
+// The last offset at which the final octet of the question's name may be, since the name has at
+// most 255 octets (RFC 1035 2.3.4).
 const LAST_ROOT: usize = HEADER_OCTETS + 254;
 
 /// The RCODE of a reply (RFC 1035 4.1.1).
@@ -130,7 +130,7 @@ pub fn query_ref(datagram: &[u8]) -> QueryRef<'_>
     }
 }
 
-// The 16 bits at a place (RFC 1035 2.3.2).
+// The 16 bits at an offset (RFC 1035 2.3.2).
 fn field(datagram: &[u8], at: usize) -> u16
     requires { at + 2 ≤ length datagram.now }
     ensures { result ≡ field16 datagram.now at }
@@ -155,8 +155,8 @@ fn question_ref(datagram: &[u8]) -> Option<QuestionRef<'_>>
     })
 }
 
-// The place after the name that follows the header; `None` if no valid name does. A pointer is
-// never valid in this name, since it would have to lead to a place before the name and after the
+// The offset after the name that follows the header; `None` if no valid name does. A pointer is
+// never valid in this name, since it would have to lead to an offset before the name and after the
 // header (RFC 1035 4.1.4).
 fn name_end(datagram: &[u8]) -> Option<usize>
     ensures some { IfSome result (λ end. NameEnds datagram.now end) }

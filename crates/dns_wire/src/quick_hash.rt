@@ -12,9 +12,9 @@ pub struct QuickHash;
 impl SuffixHash for QuickHash {
     ghost use Rattle.dns_wire.specs.QuickNumbers.{quick_number};
 
-    ghost numbers = { λ _ s. quick_number s };
+    ghost hashes = { λ _ s. quick_number s };
 
-    fn head(&mut self, suffix: &[u8]) -> u16 {
+    fn hash_of(&mut self, suffix: &[u8]) -> u16 {
         // Multiplying by an odd number carries each octet into the highest bits.
         match suffix.first_chunk::<4>() {
             Some(front) => (u32::from_le_bytes(*front).wrapping_mul(SPREAD) / 4_194_304) as u16,

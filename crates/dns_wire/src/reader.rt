@@ -13,7 +13,7 @@ use crate::wire_fault::WireFault;
 use dns_rdata::RType;
 use std::alloc::Global;
 
-// What is read, and the place after it.
+// What is read, and the offset after it.
 type Read<T> = Result<(T, usize), WireFault>;
 
 /// The message that the octets spell, all of them.
@@ -77,14 +77,14 @@ fn read_questions(alloc: Global, message: &[u8], count: u16, at: usize) -> Read<
         (SeveralFault (message_question_at message.now) (QuestionFault message.now) count at
         (fault_code fault))) }
 {
-    let mut place = at;
+    let mut offset = at;
     let mut questions = Vec::new(alloc);
     'questions: for _ in 0..count {
-        let (question, after) = read_question(message, place)?;
+        let (question, after) = read_question(message, offset)?;
         questions.push(question)?;
-        place = after;
+        offset = after;
     }
-    Ok((questions, place))
+    Ok((questions, offset))
 }
 
 fn read_question(message: &[u8], at: usize) -> Read<Question>
@@ -116,14 +116,14 @@ fn read_records(alloc: Global, message: &[u8], count: u16, at: usize) -> Read<Ve
         (SeveralFault (message_record_at message.now) (RecordFault message.now) count at
         (fault_code fault))) }
 {
-    let mut place = at;
+    let mut offset = at;
     let mut records = Vec::new(alloc);
     'records: for _ in 0..count {
-        let (record, after) = read_record(alloc, message, place)?;
+        let (record, after) = read_record(alloc, message, offset)?;
         records.push(record)?;
-        place = after;
+        offset = after;
     }
-    Ok((records, place))
+    Ok((records, offset))
 }
 
 fn read_record(alloc: Global, message: &[u8], at: usize) -> Read<WireRecord>

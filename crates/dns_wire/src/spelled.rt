@@ -1,4 +1,4 @@
-//! Checks whether a message spells a suffix at a place, following pointers (RFC 1035 4.1.4).
+//! Checks whether a message spells a suffix at an offset, following pointers (RFC 1035 4.1.4).
 ghost use Rattle.std.specs.Prelude.{◌≡◌, ◌≤◌, ◌∷◌, ◌++◌, length, take, drop, IsTrue, IfSome, IsNone};
 ghost use Rattle.dns_spec.specs.Names.{Octets};
 ghost use Rattle.dns_wire.specs.Kept.{SpelledAt, SpellsSuffix, HasAt};
@@ -6,16 +6,16 @@ ghost use Rattle.dns_wire.specs.Kept.{SpelledAt, SpellsSuffix, HasAt};
 use crate::name::{NameStep, step_at};
 use dns_name::are_equal;
 
-/// Whether the name that a message spells at a place has these octets as its wire form.
+/// Whether the name that a message spells at an offset has these octets as its wire form.
 pub(crate) fn is_spelled(message: &[u8], at: usize, suffix: &[u8]) -> bool
     ensures yes { IsTrue result → SpellsSuffix message.now at suffix.now }
     ensures no { SpelledAt message.now at suffix.now → IsTrue result }
 {
     let mut run = at;
-    let mut place = at;
+    let mut offset = at;
     let mut rest = suffix;
     'steps: loop {
-        let Ok(step) = step_at(message, run, place) else {
+        let Ok(step) = step_at(message, run, offset) else {
             return false;
         };
         match step {
@@ -26,14 +26,14 @@ pub(crate) fn is_spelled(message: &[u8], at: usize, suffix: &[u8]) -> bool
                     return false;
                 };
                 rest = after;
-                place += 1 + label.octets().len();
+                offset += 1 + label.octets().len();
             }
             NameStep::Jump(target) => {
                 if has_at(message, target, rest) {
                     return true;
                 }
                 run = target;
-                place = target;
+                offset = target;
             }
         }
     }

@@ -11,12 +11,12 @@ const SPREAD: u64 = 11_400_714_819_323_198_485;
 /// The number of a suffix: 22 bits of a hash of all its octets, 8 bits of its length, and the two
 /// highest bits of the writer's hash.
 pub(crate) fn number_of<H: SuffixHash>(hash: &mut H, suffix: &[u8]) -> u32
-    ensures value { result ≡ suffix_number (H.numbers hash.old) suffix.now }
-    ensures same { H.numbers hash.new ≡ H.numbers hash.old }
+    ensures value { result ≡ suffix_number (H.hashes hash.old) suffix.now }
+    ensures same { H.hashes hash.new ≡ H.hashes hash.old }
 {
-    let head = u32::from(hash.head(suffix) / 256);
+    let high = u32::from(hash.hash_of(suffix) / 256);
     let length = (suffix.len() % 256) as u32;
-    octets_number(suffix) * 1024 + length * 4 + head
+    octets_number(suffix) * 1024 + length * 4 + high
 }
 
 // A hash of 22 bits that depends on all octets. They are taken eight at a time: the last eight

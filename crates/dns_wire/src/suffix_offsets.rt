@@ -20,8 +20,8 @@ const HEADS: usize = 128;
 // The offset of a suffix; in `next`, the index, counted from 1, of the previous entry of the same
 // chain, or 0 for the chain's oldest entry; and the number of the suffix.
 #[derive(Clone, Copy, Default)]
-struct KeptPlace {
-    place: u16,
+struct KeptOffset {
+    offset: u16,
     next: u16,
     number: u32,
 }
@@ -32,7 +32,7 @@ struct KeptPlace {
 pub(crate) struct SuffixOffsets<const N: usize> {
     // The index, counted from 1, of the newest entry of each chain; 0 for an empty chain.
     heads: [u16; HEADS],
-    entries: ArrayVec<KeptPlace, N>,
+    entries: ArrayVec<KeptOffset, N>,
 }
 
 impl<const N: usize> Model for SuffixOffsets<N> {
@@ -67,15 +67,15 @@ impl<const N: usize> SuffixOffsets<N> {
     }
 
     /// Adds the offset of a suffix with this number.
-    pub(crate) fn insert(&mut self, place: u16, number: u32)
+    pub(crate) fn insert(&mut self, offset: u16, number: u32)
         requires few { N ≤ 8192 }
         requires room { length self.old < N }
-        requires reached { place < 16384 }
-        ensures { self.new ≡ self.old ++ record { place = place; number = number } ∷ [] }
+        requires reached { offset < 16384 }
+        ensures { self.new ≡ self.old ++ record { offset = offset; number = number } ∷ [] }
     {
         let next = self.heads[chain_of(number)];
-        self.entries.push(KeptPlace {
-            place,
+        self.entries.push(KeptOffset {
+            offset,
             next,
             number,
         });
@@ -86,7 +86,7 @@ impl<const N: usize> SuffixOffsets<N> {
     pub(crate) fn take_back(&mut self, count: usize)
         ensures { self.new ≡ take count self.old }
     {
-        'places: while self.len() > count {
+        'offsets: while self.len() > count {
             if let Some(newest) = self.entries.pop() {
                 self.heads[chain_of(newest.number)] = newest.next;
             }
@@ -95,17 +95,17 @@ impl<const N: usize> SuffixOffsets<N> {
 
     /// The newest of the offsets with this number at which the message spells the suffix.
     pub(crate) fn find(&self, number: u32, message: &[u8], suffix: &[u8]) -> Option<u16>
-        ensures kept { IfSome result (λ place. IsKept self.now place number) }
-        ensures spelled { IfSome result (λ place. SpellsSuffix message.now place suffix.now) }
-        ensures reached { IfSome result (λ place. place < 16384) }
+        ensures kept { IfSome result (λ offset. IsKept self.now offset number) }
+        ensures spelled { IfSome result (λ offset. SpellsSuffix message.now offset suffix.now) }
+        ensures reached { IfSome result (λ offset. offset < 16384) }
         ensures none { IsNone result → NoneSpelled self.now number message.now suffix.now }
     {
         let mut newest = self.heads[chain_of(number)];
         'chain: while newest > 0 {
             // A reference: copying the entry would take half as long again.
             let entry = &self.entries.as_slice()[usize::from(newest) - 1];
-            if entry.number == number && is_spelled(message, usize::from(entry.place), suffix) {
-                return Some(entry.place);
+            if entry.number == number && is_spelled(message, usize::from(entry.offset), suffix) {
+                return Some(entry.offset);
             }
             newest = entry.next;
         }
@@ -121,8 +121,8 @@ fn chain_of(number: u32) -> usize
     (number / 2 % HEADS as u32) as usize
 }
 
-/// A hash of suffixes, below 1,024, always the same for the same octets. The highest of the hash's
-/// ten bits and the suffix's length choose the chain in which the suffix is looked for.
+/// A hash of suffixes, below 1,024, always the same for the same octets. Suffixes are looked for by
+/// a number (`number_of`) that contains the two highest bits of this hash.
 ///
 /// The message that is written does not depend on this hash.
 pub trait SuffixHash {
@@ -130,11 +130,11 @@ pub trait SuffixHash {
     ghost use Rattle.dns_spec.specs.Names.{Octets};
 
     /// The hash of each suffix.
-    ghost numbers: { Self → Octets → ℕ };
+    ghost hashes: { Self → Octets → ℕ };
 
     /// The hash of a suffix, given in its wire form.
-    fn head(&mut self, suffix: &[u8]) -> u16
-        ensures value { result ≡ numbers self.old suffix.now }
+    fn hash_of(&mut self, suffix: &[u8]) -> u16
+        ensures value { result ≡ hashes self.old suffix.now }
         ensures low { result < 1024 }
-        ensures same { numbers self.new ≡ numbers self.old };
+        ensures same { hashes self.new ≡ hashes self.old };
 }

@@ -3,7 +3,7 @@
 ghost use Rattle.std.specs.Prelude.{◌≡◌, List, ◌+◌, ◌-◌, ◌*◌, ◌≤◌, ◌<◌, ◌^◌, [], ◌∷◌, ◌++◌, length, drop, min, IsTrue, IfSome, IsNone, ℕ, false};
 ghost use Rattle.dns_spec.specs.Names.{Octets, DomainName, wire, is_name};
 ghost use Rattle.dns_spec.specs.Layout.{Placed, shared_octets};
-ghost use Rattle.dns_wire.specs.Writing.{IsAsked, asked_places, NotAsked, IsLastOf, front_size, pointed_place, new_places, Follows, AfterLabel, Holds};
+ghost use Rattle.dns_wire.specs.Writing.{IsAsked, asked_offsets, NotAsked, IsLastOf, IsLaid, front_size, new_offsets, shown_form, Follows, AfterLabel, Holds};
 ghost use Rattle.dns_wire.specs.Kept.{IsSharedAt, NoneSpelled};
 ghost use Rattle.dns_wire.specs.SuffixNumbers.{suffix_number};
 
@@ -15,84 +15,95 @@ use dns_name::ends_with;
 // The last offset that the 14 bits of a pointer reach.
 pub(crate) const LAST_OFFSET: usize = 16383;
 
-/// How a name, given in its wire form, is laid out in `room` octets: the number of octets before
-/// the longest suffix that a pointer may replace, and the offset of that suffix; or the number of
-/// octets before the root, and no offset. Suffixes are tried from the longest. `None` if the labels
+/// How a name is laid out in a message.
+#[derive(Clone, Copy, Default)]
+pub(crate) struct NameForm {
+    /// The number of octets of the labels that are written.
+    pub(crate) front: usize,
+    /// The offset of the suffix after these labels, which a pointer replaces. `None` if only the
+    /// root is after them.
+    pub(crate) pointer: Option<u16>,
+}
+
+/// How a name, given in its wire form, is laid out in `room` octets: a pointer replaces its longest
+/// suffix that a pointer may replace. Suffixes are tried from the longest. `None` if the labels
 /// before a suffix leave no room for two more octets: then the name does not fit.
 pub(crate) fn shared_suffix<H: SuffixHash, const N: usize>(
-    places: &SuffixOffsets<N>,
+    offsets: &SuffixOffsets<N>,
     message: &[u8],
     hash: &mut H,
     name: &[u8],
     asked_end: usize,
     room: usize,
-) -> Option<(usize, Option<u16>)>
+) -> Option<NameForm>
     requires asked { IsAsked message.now asked_end }
     ensures shared { IfSome result (λ laid. (ms : List Placed) (n : DomainName)
-        → Holds (suffix_number (H.numbers hash.old)) ms message.now
-        (asked_places (suffix_number (H.numbers hash.old)) message.now asked_end ++ places.now)
+        → Holds (suffix_number (H.hashes hash.old)) ms message.now
+        (asked_offsets (suffix_number (H.hashes hash.old)) message.now asked_end ++ offsets.now)
         → name.now ≡ wire n → IsTrue (is_name n)
-        → (front_size ms n ≡ laid.0) × (pointed_place ms n ≡ laid.1)) }
+        → IsLaid ms n (shown_form laid)) }
     ensures past { IsNone result → (ms : List Placed) (n : DomainName)
-        → Holds (suffix_number (H.numbers hash.old)) ms message.now
-        (asked_places (suffix_number (H.numbers hash.old)) message.now asked_end ++ places.now)
+        → Holds (suffix_number (H.hashes hash.old)) ms message.now
+        (asked_offsets (suffix_number (H.hashes hash.old)) message.now asked_end ++ offsets.now)
         → name.now ≡ wire n → IsTrue (is_name n) → room < length (shared_octets ms n) }
-    ensures inside { IfSome result (λ laid. laid.0 ≤ length name.now) }
-    ensures reached { IfSome result (λ laid. IfSome laid.1 (λ place. place < 16384)) }
-    ensures same { H.numbers hash.new ≡ H.numbers hash.old }
+    ensures inside { IfSome result (λ laid. laid.front ≤ length name.now) }
+    ensures reached { IfSome result (λ laid. IfSome laid.pointer (λ offset. offset < 16384)) }
+    ensures same { H.hashes hash.new ≡ H.hashes hash.old }
 {
     let mut rest = name;
     'suffixes: while let Some((_, after)) = after_first_label(rest) {
-        let before = name.len() - rest.len();
+        let front = name.len() - rest.len();
         // A pointer has two octets, and a label has at least two.
-        if before + 2 > room {
+        if front + 2 > room {
             return None;
         }
-        if let Some(place) = find_suffix(places, message, hash, rest, asked_end) {
-            return Some((before, Some(place)));
+        if let Some(offset) = find_suffix(offsets, message, hash, rest, asked_end) {
+            let pointer = Some(offset);
+            return Some(NameForm { front, pointer });
         }
         rest = after;
     }
-    Some((name.len() - rest.len(), None))
+    let (front, pointer) = (name.len() - rest.len(), None);
+    Some(NameForm { front, pointer })
 }
 
-// An offset at which the message spells a suffix: in the question's name, or else one of `places`. If
-// `places` is empty, nothing is hashed.
+// An offset at which the message spells a suffix: in the question's name, or else one of `offsets`.
+// If `offsets` is empty, nothing is hashed.
 fn find_suffix<H: SuffixHash, const N: usize>(
-    places: &SuffixOffsets<N>,
+    offsets: &SuffixOffsets<N>,
     message: &[u8],
     hash: &mut H,
     suffix: &[u8],
     asked_end: usize,
 ) -> Option<u16>
     requires { IsAsked message.now asked_end }
-    ensures found { IfSome result (λ place. IsSharedAt
-        (asked_places (suffix_number (H.numbers hash.old)) message.now asked_end ++ places.now)
-        message.now suffix.now place) }
+    ensures found { IfSome result (λ offset. IsSharedAt
+        (asked_offsets (suffix_number (H.hashes hash.old)) message.now asked_end ++ offsets.now)
+        message.now suffix.now offset) }
     ensures none { IsNone result → NoneSpelled
-        (asked_places (suffix_number (H.numbers hash.old)) message.now asked_end ++ places.now)
-        (suffix_number (H.numbers hash.old) suffix.now) message.now suffix.now }
-    ensures same { H.numbers hash.new ≡ H.numbers hash.old }
+        (asked_offsets (suffix_number (H.hashes hash.old)) message.now asked_end ++ offsets.now)
+        (suffix_number (H.hashes hash.old) suffix.now) message.now suffix.now }
+    ensures same { H.hashes hash.new ≡ H.hashes hash.old }
 {
-    if let Some(place) = offset_before(message, asked_end, suffix) {
-        return Some(place);
+    if let Some(offset) = offset_before(message, asked_end, suffix) {
+        return Some(offset);
     }
-    if places.len() == 0 {
+    if offsets.len() == 0 {
         return None;
     }
     let number = number_of(hash, suffix);
-    places.find(number, message, suffix)
+    offsets.find(number, message, suffix)
 }
 
-// The offset of `suffix` in the question's name, which ends at place `end`. `None` for the root, and
-// if the name does not end with `suffix`. Such offsets need not be kept, since the distance of each
-// from `end` is the suffix's length. Inlining saves up to 5 % of the work for a reply.
+// The offset of `suffix` in the question's name, which ends at offset `end`. `None` for the root,
+// and if the name does not end with `suffix`. Such offsets need not be kept, since the distance of
+// each from `end` is the suffix's length. Inlining saves up to 5 % of the work for a reply.
 #[inline(always)]
 pub(crate) fn offset_before(message: &[u8], end: usize, suffix: &[u8]) -> Option<u16>
     requires { IsAsked message.now end }
-    ensures found { (head : Octets → ℕ) → IfSome result (λ place. IsSharedAt
-        (asked_places head message.now end) message.now suffix.now place) }
-    ensures reached { IfSome result (λ place. place < 16384) }
+    ensures found { (head : Octets → ℕ) → IfSome result (λ offset. IsSharedAt
+        (asked_offsets head message.now end) message.now suffix.now offset) }
+    ensures reached { IfSome result (λ offset. offset < 16384) }
     ensures none { IsNone result → NotAsked message.now end suffix.now }
 {
     if suffix.len() < 2 {
@@ -128,10 +139,10 @@ fn has_last_labels(name: &[u8], suffix: &[u8]) -> bool
     rest.len() == suffix.len()
 }
 
-/// Adds to `places` the offsets of a name's suffixes. The name is laid out at place `at`. Only
+/// Adds to `offsets` the offsets of a name's suffixes. The name is laid out at offset `at`. Only
 /// suffixes count that begin in its first `front` octets and within the reach of a pointer.
 pub(crate) fn keep_suffixes<H: SuffixHash, const N: usize>(
-    places: &mut SuffixOffsets<N>,
+    offsets: &mut SuffixOffsets<N>,
     hash: &mut H,
     name: &[u8],
     front: usize,
@@ -139,28 +150,28 @@ pub(crate) fn keep_suffixes<H: SuffixHash, const N: usize>(
 )
     requires short { at + front < 2 ^ 16 }
     requires room { min (at + front) 16384 ≤ 2 * N }
-    requires few { 2 * length places.old ≤ at }
+    requires few { 2 * length offsets.old ≤ at }
     requires most { N ≤ 8192 }
     ensures kept { (ms : List Placed) (n : DomainName) → name.now ≡ wire n → IsTrue (is_name n)
         → front ≡ front_size ms n
-        → places.new ≡ places.old
-        ++ new_places (suffix_number (H.numbers hash.old)) ms n at }
-    ensures few { 2 * length places.new ≤ at + front }
-    ensures more { Follows places.old places.new }
-    ensures same { H.numbers hash.new ≡ H.numbers hash.old }
+        → offsets.new ≡ offsets.old
+        ++ new_offsets (suffix_number (H.hashes hash.old)) ms n at }
+    ensures few { 2 * length offsets.new ≤ at + front }
+    ensures more { Follows offsets.old offsets.new }
+    ensures same { H.hashes hash.new ≡ H.hashes hash.old }
 {
     let mut rest = name;
-    let mut place = at;
-    'suffixes: while place < at + front {
+    let mut offset = at;
+    'suffixes: while offset < at + front {
         let Some((length, after)) = after_first_label(rest) else {
             return;
         };
-        let next = place + 1 + length;
-        if next > at + front || place > LAST_OFFSET {
+        let next = offset + 1 + length;
+        if next > at + front || offset > LAST_OFFSET {
             return;
         }
-        places.insert(place as u16, number_of(hash, rest));
-        place = next;
+        offsets.insert(offset as u16, number_of(hash, rest));
+        offset = next;
         rest = after;
     }
 }

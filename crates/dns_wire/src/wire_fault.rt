@@ -11,8 +11,8 @@ pub enum WireFault {
     Short = 1,
     /// A label begins with the bits 01 or 10, which are reserved (RFC 1035 4.1.4).
     ReservedLabel,
-    /// A pointer leads into the header, or to a place that is not before the run of labels that it
-    /// ends (RFC 1035 4.1.4).
+    /// A pointer leads into the header, or to an offset that is not before the run of labels that
+    /// it ends (RFC 1035 4.1.4).
     BadPointer,
     /// A name has more than 255 octets (RFC 1035 2.3.4).
     LongName,

@@ -30,7 +30,7 @@ impl<'h, H: SuffixHash> Writer<'h, H> {
     pub fn new(limit: usize, question: Option<&Question>, hash: &'h mut H) -> Writer<'h, H>
         requires from { 512 ≤ limit }
         requires upto { limit ≤ 65535 }
-        ensures partial { IsPartial (H.numbers result.hash.now)
+        ensures partial { IsPartial (H.hashes result.hash.now)
             (option_copied question.entry) [] result.builder }
         ensures limit { result.builder.limit ≡ limit }
     {
@@ -45,20 +45,20 @@ impl<'h, H: SuffixHash> Writer<'h, H> {
     /// would make the message exceed its limit, writes none of them and returns false.
     pub fn put_set<S: SetView>(&mut self, section: Section, owner: &Name, ttl: u32, set: &S) -> bool
         ensures fits { (q : Option MessageQuestion) (items : List Item)
-            → IsPartial (H.numbers self.old.hash.now) q items self.old.builder → IsTrue result
+            → IsPartial (H.hashes self.old.hash.now) q items self.old.builder → IsTrue result
             ↔ (size q (with_set items section owner.now ttl (S.set set.now))
             ≤ self.old.builder.limit) }
         ensures put { (q : Option MessageQuestion) (items : List Item)
-            → IsPartial (H.numbers self.old.hash.now) q items self.old.builder
-            → OnTrue result (IsPartial (H.numbers self.new.hash.now) q
+            → IsPartial (H.hashes self.old.hash.now) q items self.old.builder
+            → OnTrue result (IsPartial (H.hashes self.new.hash.now) q
             (with_set items section owner.now ttl (S.set set.now)) self.new.builder) }
         ensures least { (q : Option MessageQuestion) (items : List Item)
-            → IsPartial (H.numbers self.old.hash.now) q items self.old.builder
+            → IsPartial (H.hashes self.old.hash.now) q items self.old.builder
             → self.old.builder.limit ≤ 16384 → IsFalse result ↔ ((z : ℕ) → Sharing q
             (with_set items section owner.now ttl (S.set set.now)) z → self.old.builder.limit < z) }
         ensures unchanged { OnFalse result (self.new.builder ≡ self.old.builder) }
         ensures limit { self.new.builder.limit ≡ self.old.builder.limit }
-        ensures same { H.numbers self.new.hash.now ≡ H.numbers self.old.hash.now }
+        ensures same { H.hashes self.new.hash.now ≡ H.hashes self.old.hash.now }
     {
         self.builder
             .put_set(self.hash, section, &owner.borrowed(), ttl, set)

@@ -44,7 +44,7 @@ pub use Rattle.dns_zone.specs.Nodes.{IsNode, IsSetOf, Walk, ZoneNode}
 pub use Rattle.dns_zone.specs.OwnerForm.{IsOwner, NameOfZone, is_exchange_alias, is_exchange_type, is_other_type, is_plain_type, is_server_alias, is_server_lost, number_of}
 pub use Rattle.dns_zone.specs.ReportedForm.{begins_with_owner, failed_from, owners_once}
 unfoldable pub use Rattle.dns_zone.specs.ReportedForm.{reported_at}
-pub use Rattle.dns_zone.specs.SetForm.{AreOfType, data_of, borrowed}
+pub use Rattle.dns_zone.specs.SetForm.{AreOfType, data_of, set_of_type}
 pub use Rattle.dns_zone.specs.SetWalks.{begins_with_type, sets_ended}
 pub use Rattle.dns_zone.specs.Starts.{AreStarts, BeginsAt}
 pub use Rattle.dns_zone.specs.TreeForm.{AreChildren, IsChild, IsRow, IsTree, first_of, children_at, no_row, owners, row_at, row_label, span, under}

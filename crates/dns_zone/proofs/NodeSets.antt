@@ -1,5 +1,5 @@
 -- The sets of a name of a built zone.
-use Rattle.dns_zone.proofs.Common.{◌≡◌, ℕ, ◌≤◌, true, false, not, ◌==◌, List, [], ◌∷◌, map, length, Option, None, Some, IfSome, refl, sym, ap, ◌∙◌, subst, filter, is_gt, nat_cmp, arith, eqb-true, nat_cmp_total, tied_itself, length-map, none-some, same_Some, IsNonDecreasingBy, DomainName, folded, same, Valid, ResourceRecord, ZoneContents, distinct, sort_by, data_order, record_order, at, rrset, RecordSet, records_at, set_of, rising_types, of_lowest_type, of_first_type, IsReadRecord, AllByRecursion, each_filter, each_distinct, each_sort, each_weaker, filter_each, length-sort_by, recursion_from_All, All-from_recursion, count_few, IsOf, as_set, first_ttl, own_records, each_typed, IsSetOf, data_of, borrowed, AreOfType, IsBuilt}
+use Rattle.dns_zone.proofs.Common.{◌≡◌, ℕ, ◌≤◌, true, false, not, ◌==◌, List, [], ◌∷◌, map, length, Option, None, Some, IfSome, refl, sym, ap, ◌∙◌, subst, filter, is_gt, nat_cmp, arith, eqb-true, nat_cmp_total, tied_itself, length-map, none-some, same_Some, IsNonDecreasingBy, DomainName, folded, same, Valid, ResourceRecord, ZoneContents, distinct, sort_by, data_order, record_order, at, rrset, RecordSet, records_at, set_of, rising_types, of_lowest_type, of_first_type, IsReadRecord, AllByRecursion, each_filter, each_distinct, each_sort, each_weaker, filter_each, length-sort_by, recursion_from_All, All-from_recursion, count_few, IsOf, as_set, first_ttl, own_records, each_typed, IsSetOf, data_of, set_of_type, AreOfType, IsBuilt}
 use Rattle.dns_zone.proofs.NameOrder.{same-is, same-from, same-tied}
 use Rattle.dns_zone.proofs.AtName.{data_order_total, ordered_records}
 use Rattle.dns_spec.proofs.General.Elements.{each_both, each_map}
@@ -91,7 +91,7 @@ module _ (z : ZoneContents) (kept : IsBuilt z) (n : DomainName) where
 
         shown : (r : ResourceRecord) (rs : List ResourceRecord) → rrset z n t ≡ r ∷ rs
             → AllByRecursion (IsOf (folded n) k t) (r ∷ rs)
-            → records_at n r.ttl (borrowed r.rtype r.ttl (r ∷ rs)) ≡ rrset z n r.rtype
+            → records_at n r.ttl (set_of_type r.rtype r.ttl (r ∷ rs)) ≡ rrset z n r.rtype
         shown r rs p own = grind (arith, as_set, k)
 
         go : (xs : List ResourceRecord) → rrset z n t ≡ xs → set_of xs ≡ Some s

@@ -9,15 +9,15 @@ use Rattle.dns_spec.specs.Sets.{RecordSet}
 abbrev pub data_of : List ResourceRecord → List Octets
 data_of = map (λ (r : ResourceRecord). r.rdata)
 
-abbrev pub borrowed : ℕ → ℕ → List ResourceRecord → RecordSet
-borrowed t k rs = record { rtype = t; ttl = k; rdata = data_of rs }
+abbrev pub set_of_type : ℕ → ℕ → List ResourceRecord → RecordSet
+set_of_type t k rs = record { rtype = t; ttl = k; rdata = data_of rs }
 
 -- an invariant of such a set: all records have its type, and their data is valid for it
-pub record IsBorrowed (t : ℕ) (rs : List ResourceRecord) : Type 0 where
+pub record IsOfType (t : ℕ) (rs : List ResourceRecord) : Type 0 where
   pub valid : All (Valid t) (data_of rs)
   pub typed : All (λ (r : ResourceRecord). r.rtype ≡ t) rs
 
 -- all records have the first record's type, and their data is valid for it
 abbrev pub AreOfType : List ResourceRecord → Type 0
 AreOfType [] = Unit {0}
-AreOfType (r ∷ rs) = IsBorrowed r.rtype (r ∷ rs)
+AreOfType (r ∷ rs) = IsOfType r.rtype (r ∷ rs)

@@ -79,7 +79,7 @@ fn report<'a>(
         key: one.key,
         own,
         is_below_cut: 0 < one.cut && one.cut < one.key.len(),
-        stands_first: one.key == context.key(),
+        is_apex: one.key == context.key(),
     };
     if owner.is_plain() {
         return Ok(());

@@ -7,7 +7,7 @@ ghost use Rattle.std.specs.Prelude.{◌≡◌, ◌≢◌, ◌⊎◌, ◌-◌, �
 ghost use Rattle.dns_master.specs.SourceForm.{ReadsFile};
 
 use crate::store::stored::StoredRecord;
-use dns_master::{Gathers, ReadCode, ReadFault, Record, read_into};
+use dns_master::{ReadCode, ReadFault, Record, RecordCollection, read_into};
 use dns_name::{Name, Tally};
 use std::alloc::{AllocError, Global};
 use std::io::Read;
@@ -75,8 +75,8 @@ impl Store {
     }
 }
 
-impl Gathers for Store {
-    ghost gathered = { λ s. s };
+impl RecordCollection for Store {
+    ghost records = { λ s. s };
 
     fn add(&mut self, one: &Record) -> Result<(), AllocError> {
         Store::add(self, one)

@@ -116,7 +116,7 @@ struct ReplyBuilders {
 }
 
 // The reply that is made in a builder; empty if there is no reply.
-fn redrafted<'d>(
+fn reply_in<'d>(
     zone: &Zone,
     builders: &'d mut ReplyBuilders,
     limit: Limit,
@@ -142,12 +142,12 @@ fn is_alike(
         return false;
     };
     match replied(alloc, zone, limit, &asked) {
-        Some(wanted) => redrafted(zone, builders, limit, &asked) == wanted.octets.as_slice(),
+        Some(wanted) => reply_in(zone, builders, limit, &asked) == wanted.octets.as_slice(),
         None => false,
     }
 }
 
-fn check_drafts(rt: &impl Abort, alloc: Global, zone: &Zone) {
+fn check_builders(rt: &impl Abort, alloc: Global, zone: &Zone) {
     let mut builders = ReplyBuilders {
         short: UdpBuilder::new(),
         large: TcpBuilder::new(),
@@ -168,6 +168,6 @@ fn replies_of_the_long_zone(rt: HostRuntime) -> Result<(), Fail> {
     let zone = long(rt.alloc())?;
     check(&rt, rt.alloc(), &zone, &[Limit::Udp], CUT);
     assert!(rt; has_long(rt.alloc(), &zone));
-    check_drafts(&rt, rt.alloc(), &zone);
+    check_builders(&rt, rt.alloc(), &zone);
     Ok(())
 }

@@ -205,12 +205,8 @@ fn has_target(alloc: Global, rtype: RType, octets: &[u8], wanted: Option<&[u8]>)
     let Ok(_) = Rdata::from_wire(alloc, rtype, octets) else {
         return false;
     };
-    let (target, borrowed) = (
-        Rdata::target(rtype, octets),
-        Rdata::target_ref(rtype, octets),
-    );
+    let target = Rdata::target(rtype, octets);
     target.as_ref().map(|name| name.octets()) == wanted
-        && borrowed.as_ref().map(|name| name.octets()) == wanted
 }
 
 #[test]

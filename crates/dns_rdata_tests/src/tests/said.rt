@@ -9,11 +9,11 @@ use std::io::Write;
 /// buffers, so that anything left in the buffers by the first reading would show.
 pub(crate) fn read(alloc: Global, rtype: RType, words: &[Word<'_>]) -> Result<Rdata, RdataFault> {
     let origin = Name::read_text(b"Example.", &Name::root()).unwrap_or_default();
-    let mut room = DataBuffers::new(alloc);
-    if let Ok(before) = Rdata::read_words_in(&mut room, rtype, words, &origin) {
-        room.take_back(before);
+    let mut buffers = DataBuffers::new(alloc);
+    if let Ok(before) = Rdata::read_words_in(&mut buffers, rtype, words, &origin) {
+        buffers.take_back(before);
     }
-    Rdata::read_words_in(&mut room, rtype, words, &origin)
+    Rdata::read_words_in(&mut buffers, rtype, words, &origin)
 }
 
 pub(crate) fn word(raw: &[u8], quoted: bool) -> Word<'_> {

@@ -178,17 +178,17 @@ const REPEATED: &[(RType, &[u8], usize, Result<&[u8], RdataFault>)] = &[
     (RType::A, b"\\#", 5_592_000, Err(RdataFault::BadHex)),
 ];
 
-// Whether repeated words, read with the buffers of `room`, spell these octets or have this fault.
+// Whether repeated words, read with these buffers, spell these octets or have this fault.
 fn is_said(
-    room: &mut DataBuffers,
+    buffers: &mut DataBuffers,
     rtype: RType,
     words: Repeated<'_>,
     wanted: Result<&[u8], RdataFault>,
 ) -> bool {
-    match Rdata::read_words_in(room, rtype, words, &Name::root()) {
+    match Rdata::read_words_in(buffers, rtype, words, &Name::root()) {
         Ok(data) => {
             let is_wanted = wanted == Ok(data.octets());
-            room.take_back(data);
+            buffers.take_back(data);
             is_wanted
         }
         Err(fault) => wanted == Err(fault),
@@ -197,9 +197,9 @@ fn is_said(
 
 #[test]
 fn words_that_are_no_list(rt: HostRuntime) {
-    let mut room = DataBuffers::new(rt.alloc());
+    let mut buffers = DataBuffers::new(rt.alloc());
     for &(rtype, raw, left, wanted) in REPEATED {
         let words = Repeated { raw, left };
-        assert!(rt; is_said(&mut room, rtype, words, wanted), "at {raw:?}");
+        assert!(rt; is_said(&mut buffers, rtype, words, wanted), "at {raw:?}");
     }
 }

@@ -12,9 +12,9 @@ use std::test::Fail;
 pub(crate) struct OneChain;
 
 impl SuffixHash for OneChain {
-    ghost numbers = { λ _ _. 0 };
+    ghost hashes = { λ _ _. 0 };
 
-    fn head(&mut self, _suffix: &[u8]) -> u16 {
+    fn hash_of(&mut self, _suffix: &[u8]) -> u16 {
         0
     }
 }
@@ -28,9 +28,9 @@ pub(crate) struct CountingHash {
 impl SuffixHash for CountingHash {
     ghost use Rattle.std.specs.Prelude.{◌%◌, length};
 
-    ghost numbers = { λ _ s. length s % 1024 };
+    ghost hashes = { λ _ s. length s % 1024 };
 
-    fn head(&mut self, suffix: &[u8]) -> u16 {
+    fn hash_of(&mut self, suffix: &[u8]) -> u16 {
         self.calls = self.calls.saturating_add(1);
         (suffix.len() % 1024) as u16
     }

@@ -80,14 +80,14 @@ impl<'a> CheckContext<'a> {
         ensures last { IsLastUpto self.now target.old result.now }
     {
         let names = self.names;
-        let place = target.probable_place();
-        if place < names.len() && names[place].key == target.key() {
-            target.keep_place(place);
-            return &names[place];
+        let index = target.probable_index();
+        if index < names.len() && names[index].key == target.key() {
+            target.keep_index(index);
+            return &names[index];
         }
-        let place = count_upto(names, target.key()) - 1;
-        target.keep_place(place);
-        &names[place]
+        let index = count_upto(names, target.key()) - 1;
+        target.keep_index(index);
+        &names[index]
     }
 
     // The records that the target owns, ordered by type, and whether the target is at or below a

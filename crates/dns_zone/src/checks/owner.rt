@@ -25,6 +25,17 @@ const MOST_OF_A_SET: usize = 64;
 // The most RRsets that one owner may have.
 const MOST_SETS: usize = 32;
 
+// The faults of the targets of a name's records.
+#[derive(Clone, Copy, Default)]
+struct TargetFaults {
+    // The target of an NS record is an alias.
+    ns_alias: bool,
+    // The target of an NS record lacks an address.
+    ns_lost: bool,
+    // The target of an MX or SRV record is an alias.
+    exchange_alias: bool,
+}
+
 /// A name of a zone, with its records.
 #[derive(Drop)]
 pub(crate) struct Owner<'a> {
@@ -34,7 +45,7 @@ pub(crate) struct Owner<'a> {
     pub(crate) own: &'a [StoredRecord],
     pub(crate) is_below_cut: bool,
     /// Whether the name is the zone's origin.
-    pub(crate) stands_first: bool,
+    pub(crate) is_apex: bool,
 }
 
 impl<'a> Model for Owner<'a> {
@@ -50,7 +61,7 @@ impl<'a> Model for Owner<'a> {
     ghost invariant = { λ o. IsOwner o.context.now o.name.now o.own.now
         × (o.key.now ≡ name_key o.name.now)
         × (o.is_below_cut ≡ below_cut o.context.now o.name.now)
-        × (o.stands_first ≡ is_origin o.context.now o.name.now) };
+        × (o.is_apex ≡ is_origin o.context.now o.name.now) };
 }
 
 impl<'a> Owner<'a> {
@@ -59,19 +70,19 @@ impl<'a> Owner<'a> {
     pub(crate) fn judged(&self, last: &mut LastTarget) -> [bool; 15]
         ensures { result ≡ map (λ c. c.1 self.now.zone self.now.name) checks }
     {
-        let (is_alias, is_lost, is_exchange_alias) = self.target_faults(last);
+        let targets = self.target_faults(last);
         [
-            self.stands_first && !self.owns_soa(),
-            self.stands_first && self.count_soa() > 1,
-            !self.stands_first && self.owns_soa(),
-            self.stands_first && !self.owns_ns(),
+            self.is_apex && !self.owns_soa(),
+            self.is_apex && self.count_soa() > 1,
+            !self.is_apex && self.owns_soa(),
+            self.is_apex && !self.owns_ns(),
             !self.own.is_empty() && !is_under(self.key, self.context.key()),
             self.owns_cname() && self.owns_other_than_cname(),
             self.count_cname() > 1,
             self.has_other_ttls(),
-            is_alias,
-            is_lost,
-            is_exchange_alias,
+            targets.ns_alias,
+            targets.ns_lost,
+            targets.exchange_alias,
             self.has_data_at_cut(),
             self.name.is_wildcard() && self.owns_ns(),
             self.has_large_set(),
@@ -84,7 +95,7 @@ impl<'a> Owner<'a> {
     pub(crate) fn is_plain(&self) -> bool
         ensures { OnTrue result (reported_at self.now.zone self.now.name ≡ []) }
     {
-        if self.stands_first
+        if self.is_apex
             || self.own.len() > MOST_SETS
             || !have_plain_types(self.own)
             || self.is_below_cut && self.owns_other_than_address()
@@ -100,50 +111,48 @@ impl<'a> Owner<'a> {
         have_other_ttls(self.own)
     }
 
-    // Whether some NS record's target is an alias, whether some NS record's target lacks an
-    // address, and whether some MX or SRV record's target is an alias. Each target is looked up
-    // once.
-    fn target_faults(&self, last: &mut LastTarget) -> (bool, bool, bool)
-        ensures alias { result.0 ≡ ns_target_alias self.now.zone self.now.name }
-        ensures lost { result.1 ≡ ns_target_lost self.now.zone self.now.name }
-        ensures exchange { result.2 ≡ mx_target_alias self.now.zone self.now.name }
+    // The faults of the targets of all records. Each target is looked up once.
+    fn target_faults(&self, last: &mut LastTarget) -> TargetFaults
+        ensures alias { result.ns_alias ≡ ns_target_alias self.now.zone self.now.name }
+        ensures lost { result.ns_lost ≡ ns_target_lost self.now.zone self.now.name }
+        ensures exchange { result.exchange_alias ≡ mx_target_alias self.now.zone self.now.name }
     {
         let owner_is_cut = self.is_cut();
         let mut rest = self.own;
-        let (mut has_alias, mut has_lost, mut has_exchange) = (false, false, false);
+        let mut found = TargetFaults::default();
         'targets: while let Some((first, others)) = rest.split_first() {
-            let (is_alias, is_lost, is_exchange) = self.record_faults(first, owner_is_cut, last);
-            has_alias |= is_alias;
-            has_lost |= is_lost;
-            has_exchange |= is_exchange;
+            let faults = self.record_faults(first, owner_is_cut, last);
+            found.ns_alias |= faults.ns_alias;
+            found.ns_lost |= faults.ns_lost;
+            found.exchange_alias |= faults.exchange_alias;
             rest = others;
         }
-        (has_alias, has_lost, has_exchange)
+        found
     }
 
-    // As `target_faults`, but for one record, of any type.
+    // The faults of the target of one record, of any type.
     fn record_faults(
         &self,
         entry: &StoredRecord,
         owner_is_cut: bool,
         last: &mut LastTarget,
-    ) -> (bool, bool, bool)
+    ) -> TargetFaults
         requires { owner_is_cut ≡ is_cut self.now.zone self.now.name }
-        ensures alias { result.0 ≡ is_server_alias self.now.zone entry.now }
-        ensures lost { result.1 ≡ is_server_lost self.now.zone self.now.name entry.now }
-        ensures exchange { result.2 ≡ is_exchange_alias self.now.zone entry.now }
+        ensures alias { result.ns_alias ≡ is_server_alias self.now.zone entry.now }
+        ensures lost { result.ns_lost ≡ is_server_lost self.now.zone self.now.name entry.now }
+        ensures exchange { result.exchange_alias ≡ is_exchange_alias self.now.zone entry.now }
     {
         let is_server = entry.rtype == RType::NS;
         if !is_server && entry.rtype != RType::MX && entry.rtype != RType::SRV {
-            return (false, false, false);
+            return TargetFaults::default();
         }
         let (is_alias, is_lost) = self
             .context
             .target_faults(entry, self.name, owner_is_cut, last);
-        if is_server {
-            (is_alias, is_lost, false)
-        } else {
-            (false, false, is_alias)
+        TargetFaults {
+            ns_alias: is_server && is_alias,
+            ns_lost: is_server && is_lost,
+            exchange_alias: !is_server && is_alias,
         }
     }
 

@@ -1,6 +1,6 @@
 //! The targets of records, and where the checks found them among the checked names.
-ghost use Rattle.std.specs.Prelude.{◌≡◌, [], IfSome};
-ghost use Rattle.dns_spec.specs.Names.{folded};
+ghost use Rattle.std.specs.Prelude.{◌≡◌, [], IfSome, IsTrue};
+ghost use Rattle.dns_spec.specs.Names.{folded, is_name};
 ghost use Rattle.dns_spec.specs.Data.{target};
 ghost use Rattle.dns_zone.specs.KeyForm.{name_key};
 
@@ -15,9 +15,10 @@ use std::marker::Model;
 #[tactic(auto, using(crate::proofs::Targets::target_if))]
 pub(crate) fn target(entry: &StoredRecord) -> Option<NameRef<'_>>
     ensures value { result ≡ target entry.now.rtype entry.now.rdata }
+    ensures is_name { IfSome result (λ m. IsTrue (is_name m)) }
     ensures lower { IfSome result (λ m. folded m ≡ m) }
 {
-    Rdata::target_ref(entry.rtype, entry.rdata())
+    Rdata::target(entry.rtype, entry.rdata())
 }
 
 /// The last target that was looked up, its key, and the index at which it was found among the
@@ -27,7 +28,8 @@ pub(crate) fn target(entry: &StoredRecord) -> Option<NameRef<'_>>
 pub(crate) struct LastTarget {
     name: Name,
     key: Key,
-    place: usize,
+    // The index at which it was found, or may be.
+    index: usize,
     // The index that is tried first for the next target.
     next: usize,
     // How many names `pass_name` has passed, with the one under check.
@@ -54,12 +56,13 @@ impl LastTarget {
         LastTarget {
             name: Name::root(),
             key: Key::new(),
-            place: 0,
+            index: 0,
             next: 0,
             passed: 0,
         }
     }
 
+    /// Makes this name the last target; its index is then the one that is tried first.
     pub(crate) fn move_to(&mut self, name: &NameRef<'_>)
         ensures { self.new ≡ name.now }
     {
@@ -68,7 +71,7 @@ impl LastTarget {
         }
         self.key.move_to(&self.name.borrowed(), name);
         self.name.copy_from(name);
-        self.place = self.next;
+        self.index = self.next;
     }
 
     pub(crate) fn key(&self) -> &[u8]
@@ -85,15 +88,18 @@ impl LastTarget {
         self.next = self.passed;
     }
 
-    /// The index among the checked names at which the target was found, or may be.
-    pub(crate) fn probable_place(&self) -> usize {
-        self.place
+    /// The index among the checked names at which the target was found, or may be: an unverified
+    /// hint.
+    pub(crate) fn probable_index(&self) -> usize {
+        self.index
     }
 
-    pub(crate) fn keep_place(&mut self, place: usize)
+    /// Keeps the index at which the target was found. The next one is tried first for the next
+    /// target.
+    pub(crate) fn keep_index(&mut self, index: usize)
         ensures { self.new ≡ self.old }
     {
-        self.place = place;
-        self.next = place.saturating_add(1);
+        self.index = index;
+        self.next = index.saturating_add(1);
     }
 }

@@ -1,6 +1,6 @@
 //! The RRsets of a node, borrowed from the zone.
-ghost use Rattle.std.specs.Prelude.{◌≡◌, ◌<◌, [], length, get_or, IfSome};
-ghost use Rattle.dns_spec.specs.Names.{folded};
+ghost use Rattle.std.specs.Prelude.{◌≡◌, ◌<◌, [], length, get_or, IfSome, IsTrue};
+ghost use Rattle.dns_spec.specs.Names.{folded, is_name};
 ghost use Rattle.dns_spec.specs.Data.{target};
 ghost use Rattle.dns_spec.specs.Sets.{set_of};
 ghost use Rattle.dns_zone.specs.SetForm.{AreOfType};
@@ -21,14 +21,14 @@ pub struct RecordSet<'z> {
 }
 
 impl<'z> Model for RecordSet<'z> {
-    ghost use Rattle.dns_spec.specs.Sets.{RecordSet as LentSet};
-    ghost use Rattle.dns_zone.specs.SetForm.{borrowed, IsBorrowed};
+    ghost use Rattle.dns_spec.specs.Sets.{RecordSet as SetValue};
+    ghost use Rattle.dns_zone.specs.SetForm.{set_of_type, IsOfType};
 
-    ghost Value = { LentSet };
+    ghost Value = { SetValue };
 
-    ghost view = { λ s. borrowed s.rtype.0 s.ttl s.records.now };
+    ghost view = { λ s. set_of_type s.rtype.0 s.ttl s.records.now };
 
-    ghost invariant = { λ s. IsBorrowed s.rtype.0 s.records.now };
+    ghost invariant = { λ s. IsOfType s.rtype.0 s.records.now };
 }
 
 impl<'z> RecordSet<'z> {
@@ -39,6 +39,7 @@ impl<'z> RecordSet<'z> {
     pub fn target(&self, i: usize) -> Option<NameRef<'z>>
         requires { i < length self.now.rdata }
         ensures value { result ≡ target self.now.rtype (get_or self.now.rdata i []) }
+        ensures is_name { IfSome result (λ m. IsTrue (is_name m)) }
         ensures lower { IfSome result (λ m. folded m ≡ m) }
     {
         let records = self.records;

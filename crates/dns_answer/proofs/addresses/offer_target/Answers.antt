@@ -33,7 +33,9 @@ returns-then-not-takes-clause-offers g c =
 
 pub returns-then-not-stood_before-clause-bound : goal.returns-then-not-stood_before-clause-bound
 returns-then-not-stood_before-clause-bound g c =
-    search (rules, Took-within, depth-few, length-is_name)
+    let few = depth-few c.args.steps.now.zone c.in-Some.target
+    (length-is_name c.in-Some.target c.in-Some.ensures.is_name) in
+    search (rules, Took-within, few)
 
 pub returns-else-not-stood_before-clause-offers : goal.returns-else-not-stood_before-clause-offers
 returns-else-not-stood_before-clause-offers g c =

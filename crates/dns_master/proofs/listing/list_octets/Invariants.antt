@@ -8,7 +8,8 @@ abbrev pub invariant-entries : goal.invariant-entries
 invariant-entries g l = record {
   listed : ListedSoFar l.origin l.octets l.past l.listing.earlier
       (entries_from l.left (length l.octets) l.past l.rest) l.listing.list
-      (g.G.Gathers.gathered l.initial.found) (g.G.Gathers.gathered l.found);
+      (g.C.RecordCollection.records l.initial.collection) (g.C.RecordCollection.records
+      l.collection);
   short : length l.rest ≤ length l.octets;
   count : l.listing.earlier.count + l.left ≤ 1 + length l.octets;
 }

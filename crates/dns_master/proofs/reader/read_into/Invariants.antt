@@ -6,12 +6,13 @@ use Rattle.dns_master.proofs.reader.read_into.Given as goal
 abbrev pub invariant-pieces : goal.invariant-pieces
 invariant-pieces g l = record {
   so_far : GivenSoFar (g.R.Read.remaining l.initial.source.device)
-      (g.R.Read.remaining l.source.device) l.origin l.begun.reader l.begun.held.items l.begun.left
-      (g.G.Gathers.gathered l.found);
-  count : length (g.G.Gathers.gathered l.found) ≡ l.begun.reader.count;
-  fits : l.begun.reader.line + length l.begun.held.items + l.begun.left ≤ 16777217;
+      (g.R.Read.remaining l.source.device) l.origin l.reading.reader l.reading.held.items
+      l.reading.left
+      (g.C.RecordCollection.records l.collection);
+  count : length (g.C.RecordCollection.records l.collection) ≡ l.reading.reader.count;
+  fits : l.reading.reader.line + length l.reading.held.items + l.reading.left ≤ 16777217;
   counted : l.source.failures ≡ l.initial.source.failures;
 }
 
 abbrev pub decreases-pieces : goal.decreases-pieces
-decreases-pieces g l = l.begun.left
+decreases-pieces g l = l.reading.left

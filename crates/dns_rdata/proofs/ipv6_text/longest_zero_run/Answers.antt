@@ -4,16 +4,16 @@ use Rattle.dns_rdata.proofs.ipv6_text.longest_zero_run.Goals as goal
 use Rattle.dns_rdata.proofs.ipv6_text.longest_zero_run.Goals.{then-run-longest, else-run-longest}
 use Rattle.dns_spec.proofs.Common.{take_rest}
 
-pub places-init : goal.places-init
-places-init c = LongestSoFar-first _ _ c.zero_run-longest.ensures
+pub indices-init : goal.indices-init
+indices-init c = LongestSoFar-first _ _ c.zero_run-longest.ensures
 
-pub places-preserved : goal.places-preserved
-places-preserved c =
+pub indices-preserved : goal.indices-preserved
+indices-preserved c =
     let run = c.zero_run-run.ensures
-    ∙ ap (prefix_len (λ n. n == 0)) (take_rest c.args.groups.now c.places.start) in
+    ∙ ap (prefix_len (λ n. n == 0)) (take_rest c.args.groups.now c.indices.start) in
     elim c.if-run-longest.branch [
-      | then-run-longest w ↦ rw (w.place-is, w.longest-is) (LongestSoFar-longer
-          _ _ _ _ _ c.places.invariant c.places-test.true run w.if-run-longest.true)
-      | else-run-longest w ↦ rw (w.place-is, w.longest-is) (LongestSoFar-other
-          _ _ _ _ _ c.places.invariant c.places-test.true run w.if-run-longest.false)
+      | then-run-longest w ↦ rw (w.index-is, w.longest-is) (LongestSoFar-longer
+          _ _ _ _ _ c.indices.invariant c.indices-test.true run w.if-run-longest.true)
+      | else-run-longest w ↦ rw (w.index-is, w.longest-is) (LongestSoFar-other
+          _ _ _ _ _ c.indices.invariant c.indices-test.true run w.if-run-longest.false)
     ]

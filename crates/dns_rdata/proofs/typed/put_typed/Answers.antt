@@ -29,10 +29,11 @@ returns-in_err-append_word-clause-faulty g c =
     let here = word-next _ _ _ _ _ _ _ _ _ (c.field_at.ensures _ c.words-test.true)
     c.in-Some-split_first.ensures c.words.invariant.taken in
     let many = eqb-true _ _ (sym c.is_word_count.ensures ∙ c.if-not-is_word_count.false) in
-    let index = taken_is _ _ _ c.words.place _ _ _ _ here (omega (arith, many, c.words-test.true)) in
+    let index = taken_is _ _ _ c.words.index _ _ _ _ here (omega (arith, many, c.words-test.true))
+        in
     fault_handed_on c.from_residual.result fault.field-0.0 _ c.from_residual.ensures.1
     (λ other. typed_at_place c.args.rtype.0 _ _ _ _
-    c.requires.not_unknown c.in-Some.ensures c.count-count.ensures _ c.words.place
+    c.requires.not_unknown c.in-Some.ensures c.count-count.ensures _ c.words.index
     (sym c.if-not-is_word_count.false ∙ c.is_word_count.ensures) index
     (word-at _ _ _ _ _ _ _ _ here (fault.ensures.fault other)))
 
@@ -42,9 +43,10 @@ returns-then-len-gt-MAX_OCTETS-clause-faulty g c = λ _.
     let here = word-next _ _ _ _ _ _ _ _ _ (c.field_at.ensures _ c.words-test.true)
     c.in-Some-split_first.ensures c.words.invariant.taken in
     let many = eqb-true _ _ (sym c.is_word_count.ensures ∙ c.if-not-is_word_count.false) in
-    let index = taken_is _ _ _ c.words.place _ _ _ _ here (omega (arith, many, c.words-test.true)) in
+    let index = taken_is _ _ _ c.words.index _ _ _ _ here (omega (arith, many, c.words-test.true))
+        in
     typed_at_place c.args.rtype.0 _ _ _ _ c.requires.not_unknown c.in-Some.ensures
-    c.count-count.ensures _ c.words.place
+    c.count-count.ensures _ c.words.index
     (sym c.if-not-is_word_count.false ∙ c.is_word_count.ensures) index
     (long-at _ _ _ _ _ _ _ _ here _ c.in_ok-append_word.ensures.ok
     (omega (arith, c.len.ensures, c.if-len-gt-MAX_OCTETS.true)))
@@ -65,7 +67,7 @@ unreachable-requires g c =
       c.words-test.true,
       c.count-count.ensures,
       ap length (c.in_default-split_first.ensures),
-      length-drop c.words.place
+      length-drop c.words.index
           (word_fields c.count-count.result (fields_in c.in-Some.row.now.fields.now)),
     ))
 
@@ -85,8 +87,8 @@ returns-clause-ok g c =
     let many = eqb-true _ _ (sym c.is_word_count.ensures ∙ c.if-not-is_word_count.false) in
     let fields = word_fields c.count-count.result (fields_in c.in-Some.row.now.fields.now) in
     let t = c.words.invariant.taken in
-    let none = length-drop c.words.place fields in
-    let left = nil_from_length (drop c.words.place fields)
+    let none = length-drop c.words.index fields in
+    let left = nil_from_length (drop c.words.index fields)
     (omega (arith, none, many, c.words-test.false)) in
     let rest = nil_from_length (g.W.Words.to_come c.words.others)
     (omega (arith, none, many, c.words-test.false, t.count, c.count-count.ensures)) in

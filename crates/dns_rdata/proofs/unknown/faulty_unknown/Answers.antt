@@ -16,12 +16,12 @@ returns-then-not-is_hex-clause-value g c =
     let rest : g.W.Words.to_come c.words.others
     ≡ c.in-Some-split_first.word ∷ g.W.Words.to_come c.in-Some-split_first.after =
     c.in-Some-split_first.ensures in
-    subst (λ all. FaultyUnknown all (c.words.place + 1)) (sym c.in-Some.ensures)
-    (word_not_hex c.in-Some.first ws states.0 states.1 c.words.place c.count-count.result
+    subst (λ all. FaultyUnknown all (c.words.index + 1)) (sym c.in-Some.ensures)
+    (word_not_hex c.in-Some.first ws states.0 states.1 c.words.index c.count-count.result
     c.in-Some-split_first.word (g.W.Words.to_come c.in-Some-split_first.after) bad
-    (c.words.invariant.passed ∙ ap (λ l. c.words.place + prefix_len is_hex l) rest)
+    (c.words.invariant.passed ∙ ap (λ l. c.words.index + prefix_len is_hex l) rest)
     (c.count-count.ensures ∙ ap length c.in-Some.ensures)
-    (c.words.invariant.left ∙ ap (λ l. c.words.place + length l) rest))
+    (c.words.invariant.left ∙ ap (λ l. c.words.index + length l) rest))
 
 pub returns-clause-value : goal.returns-clause-value
 returns-clause-value g c =
@@ -30,11 +30,11 @@ returns-clause-value g c =
     let some : is_none c.read_number.result ≡ false = search rules in
     let states = stated c.in-Some.first _ c.read_number.result
     (ap (λ w. w.raw) c.first.view_is) bare some c.read_number.ensures in
-    let over : c.words.place ≡ c.count-count.result =
+    let over : c.words.index ≡ c.count-count.result =
     omega (arith, c.words-test.false, c.words.invariant.left) in
     let none : length (g.W.Words.to_come c.words.others) ≡ 0 =
     omega (arith, over, c.words.invariant.left) in
     subst (λ all. FaultyUnknown all 0) (sym c.in-Some.ensures)
-    (all_hex c.in-Some.first ws states.0 states.1 c.words.place c.count-count.result
-    (c.words.invariant.passed ∙ passed_none c.words.place (g.W.Words.to_come c.words.others) none)
+    (all_hex c.in-Some.first ws states.0 states.1 c.words.index c.count-count.result
+    (c.words.invariant.passed ∙ passed_none c.words.index (g.W.Words.to_come c.words.others) none)
     (c.count-count.ensures ∙ ap length c.in-Some.ensures) over)

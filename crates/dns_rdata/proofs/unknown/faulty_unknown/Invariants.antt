@@ -7,6 +7,6 @@ use Rattle.dns_rdata.proofs.unknown.faulty_unknown.Given as goal
 abbrev pub invariant-words : goal.invariant-words
 invariant-words g l = record {
   passed : 1 + prefix_len is_hex (g.W.Words.to_come l.initial.others)
-      ≡ l.place + prefix_len is_hex (g.W.Words.to_come l.others);
-  left : l.count ≡ l.place + length (g.W.Words.to_come l.others);
+      ≡ l.index + prefix_len is_hex (g.W.Words.to_come l.others);
+  left : l.count ≡ l.index + length (g.W.Words.to_come l.others);
 }

@@ -6,7 +6,7 @@ abbrev pub invariant-pieces : goal.invariant-pieces
 invariant-pieces g l = record {
   came : Came (g.R.Read.remaining l.initial.source.device) (g.R.Read.remaining l.source.device)
       l.frame;
-  room : length l.room ≡ length l.initial.room;
+  room : length l.buffer ≡ length l.initial.buffer;
   counted : l.source.failures ≡ l.initial.source.failures;
 }
 

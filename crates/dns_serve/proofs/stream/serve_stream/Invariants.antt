@@ -16,7 +16,7 @@ invariant-messages g l = record {
   same : l.most ≡ l.initial.most;
   source : l.source.failures ≡ l.initial.source.failures;
   sink : l.sink.failures ≡ l.initial.sink.failures;
-  room : length l.room ≡ 65537;
+  room : length l.buffer ≡ 65537;
 }
 
 abbrev pub decreases-messages : goal.decreases-messages

@@ -3,7 +3,7 @@ use Rattle.dns_tools.proofs.once.answer.Goals as goal
 
 pub slice_bounds-spell-end-2 : goal.slice_bounds-spell-end-2
 slice_bounds-spell-end-2 g c =
-    sym (length-take-le 65535 c.args.room.now (omega (arith, c.requires.room)))
+    sym (length-take-le 65535 c.args.scratch.now (omega (arith, c.requires.room)))
 
 pub spell-requires : goal.spell-requires
-spell-requires g c = length-take-le 65535 c.args.room.now (omega (arith, c.requires.room))
+spell-requires g c = length-take-le 65535 c.args.scratch.now (omega (arith, c.requires.room))

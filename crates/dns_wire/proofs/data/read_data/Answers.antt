@@ -11,13 +11,13 @@ left {b} {o} {all} {i} {e} {j} same reading = grind arith
 
 pub fields-preserved : goal.fields-preserved
 fields-preserved c =
-    field_more (left c.in-Some.ensures.cases.0 c.fields.invariant) c.in_ok-place.ensures.ok
+    field_more (left c.in-Some.ensures.cases.0 c.fields.invariant) c.in_ok-offset.ensures.ok
 
 pub returns-clause-ok : goal.returns-clause-ok
 returns-clause-ok c =
     data_read _ c.args.rtype.0 c.args.rclass _ _ _ c.requires.ordered c.requires.within
     (fields_end (left (nil_from_length _ c.in_default.ensures.cases) c.fields.invariant)
-    c.if-place-end.false)
+    c.if-offset-end.false)
 
 pub returns-clause-valid : goal.returns-clause-valid
 returns-clause-valid c =
@@ -25,11 +25,11 @@ returns-clause-valid c =
     data_valid c.args.message.now c.args.rtype.0 c.args.rclass c.args.at c.args.end
     c.fields.data.items (returns-clause-ok c) (omega (arith, short))
 
-pub returns-in_err-place-clause-fault : goal.returns-in_err-place-clause-fault
-returns-in_err-place-clause-fault c =
+pub returns-in_err-offset-clause-fault : goal.returns-in_err-offset-clause-fault
+returns-in_err-offset-clause-fault c =
     let reading = left c.in-Some.ensures.cases.0 c.fields.invariant in
     grind (arith, field_fault_of_all reading)
 
-pub returns-then-place-end-clause-fault : goal.returns-then-place-end-clause-fault
-returns-then-place-end-clause-fault c _ =
+pub returns-then-offset-end-clause-fault : goal.returns-then-offset-end-clause-fault
+returns-then-offset-end-clause-fault c _ =
     end_fault_of_all (left (nil_from_length _ c.in_default.ensures.cases) c.fields.invariant)

@@ -4,8 +4,8 @@ use Rattle.dns_rdata.specs.declared.table.Field.TheVariants.{Domain}
 use Rattle.dns_wire.proofs.FieldLemmas.{long_name_none, field_read}
 use Rattle.dns_wire.proofs.data.read_field.Goals as goal
 
-pub returns-then-place-end-clause-err : goal.returns-then-place-end-clause-err
-returns-then-place-end-clause-err c _ =
+pub returns-then-offset-end-clause-err : goal.returns-then-offset-end-clause-err
+returns-then-offset-end-clause-err c _ =
     let m = c.args.message.now in
     subst (λ p. field_at m (field_of p) c.args.at c.args.end ≡ None) (sym c.in-Domain.is)
     (long_name_none m c.args.at c.args.end _ _ c.in_ok-name.ensures.name (omega arith))

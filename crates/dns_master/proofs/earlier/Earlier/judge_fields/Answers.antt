@@ -44,12 +44,13 @@ returns-in-Err-clause-err c = λ some o earlier known. elim c.data_blame.ensures
       let in_force = rw c.as_ref-3.ensures.value at c.ttl_in_force.ensures o earlier known in
       rw (sym c.fields.view_is)
       (fields-by o earlier _ _ c.data_blame.result BadData (Some (fault_code c.in-Err.fault))
-      c.read_words_in.new.room.faulty h.code h.number h.words
+      c.read_words_in.new.buffers.words_before_fault h.code h.number h.words
       (data-blamed o earlier _ _ _ _ _ stated (search rules) c.in-Some.ensures.0 in_force
       c.in-Some-ttl_in_force.ttl c.in-Some-ttl_in_force.is _ known.origin_is known.no_other
       (rw c.in-Some.ensures.1 at c.in-Err.ensures.fault h.other))
       (data-detail o earlier (words_left c.fields.inside.others) c.in-Some.rtype.0
-      c.args.self.now.origin (fault_code c.in-Err.fault) c.read_words_in.new.room.faulty
+      c.args.self.now.origin (fault_code c.in-Err.fault)
+      c.read_words_in.new.buffers.words_before_fault
       c.in-Some.ensures.0 known.origin_is
       (rw c.in-Some.ensures.1 at c.in-Err.ensures.which h.other)
       (rw c.in-Some.ensures.1 at c.in-Err.ensures.faulty h.other)))
@@ -60,9 +61,10 @@ returns-in-Err-clause-few c = elim c.data_blame.ensures [
   | inl h ↦ let none = h.1 in omega (arith, none)
   | inr h ↦
       rw (sym c.fields.view_is)
-      (few_by c.data_blame.result c.read_words_in.new.room.faulty _ h.words
+      (few_by c.data_blame.result c.read_words_in.new.buffers.words_before_fault _ h.words
       (fields-data_few c.in-Some.rtype.0 (words_left c.fields.inside.others)
-      c.args.self.now.origin c.read_words_in.new.room.faulty (rw c.in-Some.ensures.1 at
+      c.args.self.now.origin c.read_words_in.new.buffers.words_before_fault (rw c.in-Some.ensures.1
+      at
       c.in-Err.ensures.faulty h.other)))
 ]
 

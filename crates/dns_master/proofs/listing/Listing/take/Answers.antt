@@ -29,14 +29,16 @@ returns-clause-taken g c = λ o octets past es before so.
           let judged = subst Judged w.in-Gives.is c.in_ok-one.ensures in
           let known = ap (λ (s : Listing). s.earlier) w.self-is in
           subst₂ (λ list rs. ListedSoFar o octets past c.pass.new.earlier es list before rs)
-          (sym (ap (λ (s : Listing). s.list) w.self-is)) (sym (ap g.G.Gathers.gathered w.found-is))
+          (sym (ap (λ (s : Listing). s.list) w.self-is)) (sym (ap g.C.RecordCollection.records
+          w.collection-is))
           (own-listed o octets past k _ _ es _ before _ _ _ so (judged o so.earlier so.known)
           (passed known) w.in_ok-add_given-in-Gives.ensures)
       | in-Faulty+in_ok-add-in-Faulty+else-ends_list w ↦
           let judged = subst Judged w.in-Faulty.is c.in_ok-one.ensures in
           let known = ap (λ (s : Listing). s.earlier) w.self-is in
           subst₂ (λ list rs. ListedSoFar o octets past c.pass.new.earlier es list before rs)
-          (sym (ap (λ (s : Listing). s.list) w.self-is)) (sym (ap g.G.Gathers.gathered w.found-is))
+          (sym (ap (λ (s : Listing). s.list) w.self-is)) (sym (ap g.C.RecordCollection.records
+          w.collection-is))
           (fault-listed o octets past k _ _ es _ _ before _ (shown_fault w.in-Faulty.fault) so
           (judged o so.earlier so.known) (sym w.ends_list.ensures ∙ w.if-ends_list.false)
           (passed known) (w.in_ok-add-in-Faulty.ensures so.found so.listed))

@@ -13,8 +13,8 @@ units-preserved c = search (rules, here-escape)
 
 pub returns-after-units-clause-value : goal.returns-after-units-clause-value
 returns-after-units-clause-value c =
-    let none = run-none (by_itself c.args.self) (drop c.units.place c.args.text.now)
-    (ap length (drop_all c.units.place c.args.text.now c.units-test.false)) in
+    let none = run-none (by_itself c.args.self) (drop c.units.index c.args.text.now)
+    (ap length (drop_all c.units.index c.args.text.now c.units-test.false)) in
     omega (arith, none, c.units.invariant.whole)
 
 pub returns-then-octet-ne92-clause-value : goal.returns-then-octet-ne92-clause-value

@@ -5,9 +5,9 @@ use Rattle.dns_master.proofs.run.RunKind.length_from.Given as goal
 abbrev pub invariant-units : goal.invariant-units
 invariant-units l = record {
   whole : run_length
-      (by_itself l.self) 0 l.text ≡ l.place + run_length (by_itself l.self) 0 (drop l.place l.text);
-  bound : l.place ≤ length l.text;
+      (by_itself l.self) 0 l.text ≡ l.index + run_length (by_itself l.self) 0 (drop l.index l.text);
+  bound : l.index ≤ length l.text;
 }
 
 abbrev pub decreases-units : goal.decreases-units
-decreases-units l = length l.text - l.place
+decreases-units l = length l.text - l.index

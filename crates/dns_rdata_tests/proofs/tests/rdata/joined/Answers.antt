@@ -3,20 +3,20 @@ use Rattle.std.proofs.lemmas.Iterator.Consumers.{YieldsList-from_first, YieldsLi
 use Rattle.dns_spec.specs.Data as Data
 use Rattle.dns_spec.proofs.DataWords.LoweredData.{joined-parts}
 use Rattle.dns_rdata.specs.declared.parts.Part.{Part}
-use Rattle.dns_rdata.specs.Parts.{part_lends, shown_part, with_octets}
+use Rattle.dns_rdata.specs.Parts.{borrowed_octets, shown_part, with_octets}
 use Rattle.dns_rdata_tests.proofs.tests.rdata.joined.Goals as goal
 
 -- the octets that a walk over the parts of data borrowed are the data
 lent_joined : (xs : List Part) (ps : List Data.Part)
-    → map shown_part xs ≡ map with_octets ps → flat_map part_lends xs ≡ joined ps
+    → map shown_part xs ≡ map with_octets ps → flat_map borrowed_octets xs ≡ joined ps
 lent_joined [] [] e = refl
 lent_joined [] (p ∷ ps) e = cc
 lent_joined (x ∷ xs) [] e = cc
 lent_joined (x ∷ xs) (p ∷ ps) e =
-    let first : part_lends x ≡ part_octets p =
+    let first : borrowed_octets x ≡ part_octets p =
     ap (λ (ys : List (Data.Part × Octets)). (get_or ys 0 (shown_part x)).1) e in
-    flat_map-cons part_lends x xs
-    ∙ ap (λ ys. ys ++ flat_map part_lends xs) first
+    flat_map-cons borrowed_octets x xs
+    ∙ ap (λ ys. ys ++ flat_map borrowed_octets xs) first
     ∙ ap (λ ys. part_octets p ++ ys) (lent_joined xs ps (ap
     (λ (ys : List (Data.Part × Octets)). drop 1 ys) e)) ∙ sym (flat_map-cons part_octets p ps)
 

@@ -8,7 +8,7 @@ module _ (g : given.Over) (c : goal.After-extend-2 g) where
   before = subst (IsWellKept g.row.N g.row.SIZE) c.self.view_is c.self.invariant
 
   put : partial_of c.self.inside.limit
-      c.extend-2.new.octets.items c.self.inside.asked_end c.self.inside.places c.self.inside.counts
+      c.extend-2.new.octets.items c.self.inside.asked_end c.self.inside.offsets c.self.inside.counts
       ≡ with_octets c.args.self.now (c.args.front.now ++ c.args.end.now)
   put = grind (arith, append_assoc)
 

@@ -14,14 +14,14 @@ module _ (g : given.Over) (c : goal.After-self-2-1 g) where
   }
 
   begun : partial_of c.self.inside.limit c.self.inside.octets.items c.self.inside.asked_end
-      c.self.inside.places c.self.inside.counts ≡ empty_message c.args.self.now.limit
+      c.self.inside.offsets c.self.inside.counts ≡ empty_message c.args.self.now.limit
   begun = c.self.view_is ∙ c.requires
 
   name : c.extend.new.octets.items ≡ replicate 12 0 ++ wire asked.qname
   name = c.extend.ensures ∙ ap₂ ◌++◌ (ap (λ (d : PartialMessage). d.octets) begun) c.octets.ensures.value
 
   now : partial_of c.self.inside.limit
-      c.extend-3.new.octets.items c.len-self-inside.result c.self.inside.places
+      c.extend-3.new.octets.items c.len-self-inside.result c.self.inside.offsets
       (record c.self.inside.counts { questions = 1 }) ≡ asked_message c.args.self.now.limit asked
   now = grind (arith, asked_message)
 

@@ -20,6 +20,6 @@ returns-else-shares-clause-writes g c =
     ap (λ b. cond b (parts t d) (octets d ∷ [])) (sym c.requires.shares ∙ c.if-shares.false) in
     let last = writes_as
     (octets_laid (x ++ d)) tail (plain_laid t c.args.ttl d x c.record_numbers.ensures whole)
-    (c.append.ensures.writes (g.H.SuffixHash.numbers c.put_owner.new.hash)) in
+    (c.append.ensures.writes (g.H.SuffixHash.hashes c.put_owner.new.hash)) in
     writes_both (name_laid n) tail (λ _ _ _. tt) c.if-not-put_owner.false
     c.put_owner.ensures.writes last

@@ -13,7 +13,7 @@ returns-then-not-append-clause-writes g c =
     writes_past
     (octets_laid c.record_numbers.result) (tail_laid t c.args.ttl o) c.if-not-append.true refl
     (λ ms p. grind (arith, length-record_tail, shown, parts_laid))
-    (c.append.ensures.writes (g.H.SuffixHash.numbers c.args.hash.now))
+    (c.append.ensures.writes (g.H.SuffixHash.hashes c.args.hash.now))
 
 pub returns-then-not-put_data-clause-writes : goal.returns-then-not-put_data-clause-writes
 returns-then-not-put_data-clause-writes g c =
@@ -28,7 +28,7 @@ returns-then-not-put_data-clause-writes g c =
     let same = ap₂ (λ m k. length (parts_laid t o m (p + k)).written) (append-nil ms) ten in
     grind (arith, length-append, parts_laid, length-record_tail, shown))
     (writes_both (octets_laid z) (parts_laid t o) (λ _ _ _. tt) c.if-not-append.false
-    (c.append.ensures.writes (g.H.SuffixHash.numbers c.args.hash.now)) c.put_data.ensures)
+    (c.append.ensures.writes (g.H.SuffixHash.hashes c.args.hash.now)) c.put_data.ensures)
 
 module _ (g : given.Over) (c : goal.After-self-3-1 g) where
   abbrev before : Octets
@@ -82,7 +82,7 @@ invariant_of-self g c =
 
 pub returns-clause-writes : goal.returns-clause-writes
 returns-clause-writes g c =
-    let numbers = g.H.SuffixHash.numbers in
+    let numbers = g.H.SuffixHash.hashes in
     let head = numbers c.args.hash.now in
     let now = c.args.self.now in
     let t = c.args.rtype.0 in
@@ -91,9 +91,10 @@ returns-clause-writes g c =
     c.record_numbers.ensures c.if-not-append.false (c.append.ensures.writes head) in
     let next = subst (λ u. Writes head (numbers c.put_data.new.hash) c.append.new.self
     c.put_data.new.self (parts_laid t o) u) c.if-not-put_data.false c.put_data.ensures in
-    let place = c.len-at.ensures.value ∙ ap (λ (d : PartialMessage). length d.octets) c.self.view_is in
+    let offset = c.len-at.ensures.value ∙ ap (λ (d : PartialMessage). length d.octets)
+    c.self.view_is in
     let laid = subst₂ (λ k (d : PartialMessage). after g c ≡ take (k + 8) d.octets ++ patch g c k d.octets)
-    place c.self-2.view_is (set g c) in
+    offset c.self-2.view_is (set g c) in
     let s = c.self.invariant.asked.inside in
     subst (λ (d : PartialMessage). Writes head (numbers c.put_data.new.hash) now
     (record d { octets = after g c }) (tail_laid t c.args.ttl o) true) (sym c.self-2.view_is)

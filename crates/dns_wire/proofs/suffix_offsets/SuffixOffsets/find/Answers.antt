@@ -1,4 +1,4 @@
-use Rattle.dns_wire.proofs.Common.{◌≡◌, ◌-◌, ◌<◌, ◌≤◌, ◌∙◌, ℕ, suc, length, sym, ap, subst, arith, get_or, slice_get, Some, false≢true, KeptPlace, chain_of, entry_at, kept_in, SpelledAt}
+use Rattle.dns_wire.proofs.Common.{◌≡◌, ◌-◌, ◌<◌, ◌≤◌, ◌∙◌, ℕ, suc, length, sym, ap, subst, arith, get_or, slice_get, Some, false≢true, KeptOffset, chain_of, entry_at, kept_in, SpelledAt}
 use Rattle.dns_wire.proofs.ChainLemmas.{Chain, read_entry, chain_begins, chain_next, entry_kept, kept_entry}
 use Rattle.dns_wire.proofs.suffix_offsets.SuffixOffsets.find.Goals.{else-entry-number-via-then-entry-number+else-is_spelled, else-entry-number-via-else-entry-number}
 use Rattle.dns_wire.proofs.suffix_offsets.SuffixOffsets.find.Goals as goal
@@ -7,8 +7,8 @@ use Rattle.dns_wire.proofs.suffix_offsets.SuffixOffsets.find.Given as given
 pub chain-init : goal.chain-init
 chain-init g c =
     let es = c.self.inside.entries.items in
-    let P = λ (e : KeptPlace). (e.number ≡ c.args.number)
-    × SpelledAt c.args.message.now e.place c.args.suffix.now in
+    let P = λ (e : KeptOffset). (e.number ≡ c.args.number)
+    × SpelledAt c.args.message.now e.offset c.args.suffix.now in
     let low = c.chain_of.ensures.low in
     let begun = chain_begins P (chain_of c.args.number) es c.self.inside.heads c.self.invariant
     (omega (arith, low, c.chain_of.ensures.chain)) in
@@ -17,7 +17,7 @@ chain-init g c =
 
 module _ (g : given.Over) (c : goal.Then-is_spelled g) where
   found : (k : ℕ) × (c.chain.newest ≡ suc k) × (get_or c.as_slice.result.now (c.from.result - 1)
-      (record { place = 0; number = 0; next = 0 }) ≡ entry_at c.self.inside.entries.items k)
+      (record { offset = 0; number = 0; next = 0 }) ≡ entry_at c.self.inside.entries.items k)
   found = let positive = c.chain-test.true in
       read_entry (omega (arith, positive)) c.as_slice.ensures.value c.from.ensures
 
@@ -28,11 +28,12 @@ pub returns-then-is_spelled-clause-kept : goal.returns-then-is_spelled-clause-ke
 returns-then-is_spelled-clause-kept g c =
     let r = found g c in
     let e = get_or c.as_slice.result.now
-    (c.from.result - 1) (record { place = 0; number = 0; next = 0 }) in (
+    (c.from.result - 1) (record { offset = 0; number = 0; next = 0 }) in (
       r.0,
       ap (λ x. slice_get x r.0) (sym c.self.view_is) ∙ entry_kept
-          c.self.inside.entries.items r.0 (low g c) ∙ ap (λ (x : KeptPlace). Some (kept_in x)) (sym r.2)
-          ∙ ap (λ n. Some (record { place = e.place; number = n })) c.if-entry-number.true,
+          c.self.inside.entries.items r.0 (low g c) ∙ ap (λ (x : KeptOffset). Some (kept_in x)) (sym
+          r.2)
+          ∙ ap (λ n. Some (record { offset = e.offset; number = n })) c.if-entry-number.true,
     )
 
 pub returns-then-is_spelled-clause-reached : goal.returns-then-is_spelled-clause-reached
@@ -40,18 +41,18 @@ returns-then-is_spelled-clause-reached g c = grind (arith, found, low)
 
 module _ (g : given.Over) (c : goal.Joined-else-entry-number g) where
   passed : (k : ℕ) × (c.chain.newest ≡ suc k) × (get_or c.as_slice.result.now (c.from.result - 1)
-      (record { place = 0; number = 0; next = 0 }) ≡ entry_at c.self.inside.entries.items k)
+      (record { offset = 0; number = 0; next = 0 }) ≡ entry_at c.self.inside.entries.items k)
   passed = let positive = c.chain-test.true in
       read_entry (omega (arith, positive)) c.as_slice.ensures.value c.from.ensures
 
   -- the chain continues after the entry, which is not the one sought
-  next : Chain (λ (e : KeptPlace). (e.number ≡ c.args.number)
-      × SpelledAt c.args.message.now e.place c.args.suffix.now) (chain_of c.args.number)
+  next : Chain (λ (e : KeptOffset). (e.number ≡ c.args.number)
+      × SpelledAt c.args.message.now e.offset c.args.suffix.now) (chain_of c.args.number)
       c.self.inside.entries.items (entry_at c.self.inside.entries.items passed.0).next
       × ((entry_at c.self.inside.entries.items passed.0).next ≤ passed.0)
   next =
-      let P = λ (e : KeptPlace). (e.number ≡ c.args.number)
-      × SpelledAt c.args.message.now e.place c.args.suffix.now in
+      let P = λ (e : KeptOffset). (e.number ≡ c.args.number)
+      × SpelledAt c.args.message.now e.offset c.args.suffix.now in
       let es = c.self.inside.entries.items in
       let other : P (entry_at es passed.0) → ⊥ =
       λ there. let sought = subst P (sym passed.2) there in elim c.else-entry-number.branch [
@@ -69,12 +70,12 @@ chain-smaller g c =
     let r = passed g c in
     let low = (next g c).1 in
     let is = r.1 in
-    omega (arith, low, is, ap (λ (e : KeptPlace). e.next) r.2)
+    omega (arith, low, is, ap (λ (e : KeptOffset). e.next) r.2)
 
 pub chain-preserved : goal.chain-preserved
 chain-preserved g c =
-    subst (λ (e : KeptPlace). Chain (λ (e : KeptPlace). (e.number ≡ c.args.number)
-    × SpelledAt c.args.message.now e.place c.args.suffix.now) (chain_of c.args.number)
+    subst (λ (e : KeptOffset). Chain (λ (e : KeptOffset). (e.number ≡ c.args.number)
+    × SpelledAt c.args.message.now e.offset c.args.suffix.now) (chain_of c.args.number)
     c.self.inside.entries.items e.next) (sym (passed g c).2) (next g c).0
 
 pub returns-clause-none : goal.returns-clause-none

@@ -3,37 +3,37 @@ use Rattle.dns_zone.proofs.CheckedNames.{upto_parted, upto_some, found_there, fo
 use Rattle.dns_zone.proofs.ReportedNames.{checked_rise}
 use Rattle.dns_spec.proofs.General.Elements.{each_get}
 use Rattle.dns_zone.proofs.checks.context.CheckContext.last_upto.Goals as goal
-use Rattle.dns_zone.proofs.checks.context.CheckContext.last_upto.Goals.{After-count_upto-place}
+use Rattle.dns_zone.proofs.checks.context.CheckContext.last_upto.Goals.{After-count_upto-index}
 
 rises : (z : ZoneContents) (own : Octets) (names : List CheckedName) → IsCheckContext z own names
     → Rises name_order (map (owner_of z) names)
 rises z own names context = subst (Rises name_order) (sym context.names_are.all) (checked_rise z)
 
 -- some checked name, the origin, is not after the target
-some : (c : After-count_upto-place) → 0 < c.count_upto-place.result
+some : (c : After-count_upto-index) → 0 < c.count_upto-index.result
 some c =
     let are = c.self.invariant.names_are in
     upto_some _ c.self.inside.names.now are.each (rises _ _ _ c.self.invariant) c.args.target.now
-    c.requires.lower c.key-2.result.now c.key-2.ensures c.count_upto-place.result
-    c.count_upto-place.ensures are.all c.self.invariant.lower
+    c.requires.lower c.key-2.result.now c.key-2.ensures c.count_upto-index.result
+    c.count_upto-index.ensures are.all c.self.invariant.lower
     (ap (λ (z : ZoneContents). at_or_below c.args.target.now z.origin) c.self.view_is
     ∙ c.requires.inside)
 
-pub count_upto-place-requires : goal.count_upto-place-requires
-count_upto-place-requires c =
+pub count_upto-index-requires : goal.count_upto-index-requires
+count_upto-index-requires c =
     upto_parted _ c.self.inside.names.now c.self.invariant.names_are.each
     (rises _ _ _ c.self.invariant) c.args.target.now c.requires.lower
     c.key-2.result.now c.key-2.ensures
 
-pub overflow_sub-place : goal.overflow_sub-place
-overflow_sub-place c =
-    let s = some (goal.at.overflow_sub-place c).After-count_upto-place in
+pub overflow_sub-index : goal.overflow_sub-index
+overflow_sub-index c =
+    let s = some (goal.at.overflow_sub-index c).After-count_upto-index in
     omega (arith, s)
 
-pub bounds-names-place-2 : goal.bounds-names-place-2
-bounds-names-place-2 c =
-    let s = some (goal.at.bounds-names-place-2 c).After-count_upto-place in
-    let bound = c.count_upto-place.ensures.bound in omega (arith, s, bound)
+pub bounds-names-index-2 : goal.bounds-names-index-2
+bounds-names-index-2 c =
+    let s = some (goal.at.bounds-names-index-2 c).After-count_upto-index in
+    let bound = c.count_upto-index.ensures.bound in omega (arith, s, bound)
 
 in_zone : (x y : ZoneContents) (n : DomainName) (d : CheckedName) → x ≡ y → IsLastUpto x n d
     → IsLastUpto y n d
@@ -43,17 +43,18 @@ pub returns-then-eq-clause-last : goal.returns-then-eq-clause-last
 returns-then-eq-clause-last c =
     in_zone _ _ _ _ c.self.view_is
     (found_itself _ c.args.target.now c.requires.lower _
-    (each_get (λ d. IsChecked _ (owner_of _ d) d) c.self.inside.names.now c.probable_place-place.result _
-    c.self.invariant.names_are.each c.if-place-names.true)
+    (each_get (λ d. IsChecked _ (owner_of _ d) d) c.self.inside.names.now
+    c.probable_index-index.result _
+    c.self.invariant.names_are.each c.if-index-names.true)
     ((octets_equal-decides _ c.key.result.now).0 (sym c.eq.ensures ∙ c.if-eq.true) ∙ c.key.ensures))
 
 pub returns-clause-last : goal.returns-clause-last
 returns-clause-last c =
-    let s = some (goal.at.returns-clause-last c).After-count_upto-place in
-    let k = c.count_upto-place.result in
+    let s = some (goal.at.returns-clause-last c).After-count_upto-index in
+    let k = c.count_upto-index.result in
     let next : k ≡ suc (k - 1) = omega (arith, s) in
     in_zone _ _ _ _ c.self.view_is
     (found_there _ c.self.inside.names.now c.self.invariant.names_are.each
     (rises _ _ _ c.self.invariant) c.args.target.now c.requires.lower
-    c.key-2.result.now c.key-2.ensures k c.count_upto-place.ensures
+    c.key-2.result.now c.key-2.ensures k c.count_upto-index.ensures
     c.self.invariant.names_are.all (k - 1) next _)

@@ -6,11 +6,11 @@ abbrev pub invariant-targets : goal.invariant-targets
 invariant-targets l =
     let z = l.self.zone in
     let n = l.self.name in
-    ((l.has_alias || list_any (is_server_alias z) l.rest)
+    ((l.found.ns_alias || list_any (is_server_alias z) l.rest)
     ≡ list_any (is_server_alias z) l.initial.rest)
-    × ((l.has_lost || list_any (is_server_lost z n) l.rest)
+    × ((l.found.ns_lost || list_any (is_server_lost z n) l.rest)
     ≡ list_any (is_server_lost z n) l.initial.rest)
-    × ((l.has_exchange || list_any (is_exchange_alias z) l.rest)
+    × ((l.found.exchange_alias || list_any (is_exchange_alias z) l.rest)
     ≡ list_any (is_exchange_alias z) l.initial.rest)
 
 abbrev pub decreases-targets : goal.decreases-targets

@@ -1,7 +1,7 @@
-use Rattle.dns_rdata.proofs.Common.{◌∷◌, Some, sym, ap, ◌∙◌, subst, first_name, labels_of_spelled, IsWireForm-wire, part_for, IsBorrowed}
+use Rattle.dns_rdata.proofs.Common.{◌∷◌, Some, sym, ap, ◌∙◌, subst, first_name, labels_of_spelled, IsWireForm-wire, part_for, IsWirePart}
 use Rattle.dns_rdata.proofs.NamedData.{ends_with_name}
 use Rattle.dns_rdata.proofs.PartsLoop.{walked, none_left}
-use Rattle.dns_rdata.proofs.rdata.Rdata.target_ref.Goals as goal
+use Rattle.dns_rdata.proofs.rdata.Rdata.target.Goals as goal
 
 pub split_at-requires : goal.split_at-requires
 split_at-requires c = (ends_with_name
@@ -13,8 +13,8 @@ new-requires c =
     c.args.rtype.0 c.in-Some.count c.args.octets.now c.in-Some.ensures c.requires in
     IsWireForm-wire c.split_at.result.1.now n.own (c.split_at.ensures.back ∙ n.whole) n.is_name
 
-pub returns-in-Some : goal.returns-in-Some
-returns-in-Some c =
+pub returns-in-Some-clause-value : goal.returns-in-Some-clause-value
+returns-in-Some-clause-value c =
     let n = ends_with_name
     c.args.rtype.0 c.in-Some.count c.args.octets.now c.in-Some.ensures c.requires in
     ap Some (c.new.ensures.value ∙ labels_of_spelled c.split_at.result.1.now n.own
@@ -23,7 +23,7 @@ returns-in-Some c =
 pub new-requires-in-Name : goal.new-requires-in-Name
 new-requires-in-Name c =
     let w = walked _ _ _ c.parts.invariant.names c.in-Some-next.ensures.steps in
-    subst IsBorrowed c.in-Name.is w.borrowed
+    subst IsWirePart c.in-Name.is w.borrowed
 
 pub parts-preserved : goal.parts-preserved
 parts-preserved c =
@@ -34,6 +34,7 @@ parts-preserved c =
           c.in_default-part.is) ∙ c.parts.invariant.first;
     }
 
-pub returns : goal.returns
-returns c = sym (ap first_name (none_left c.parts.parts c.in_default-next.ensures.steps.0))
+pub returns-clause-value : goal.returns-clause-value
+returns-clause-value c = sym (ap first_name (none_left c.parts.parts
+    c.in_default-next.ensures.steps.0))
     ∙ c.parts.invariant.first

@@ -1,5 +1,5 @@
 use Rattle.dns_tools.proofs.Common.{arith, sym, ◌∙◌}
-use Rattle.dns_tools.proofs.arguments.said_turns.Goals as goal
+use Rattle.dns_tools.proofs.arguments.read_turns.Goals as goal
 
 pub returns-clause-some : goal.returns-clause-some
 returns-clause-some c =

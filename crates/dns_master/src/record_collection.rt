@@ -6,13 +6,13 @@ use crate::record::Record;
 use std::alloc::{AllocError, Global};
 
 /// A collection to which the reader adds records, in any form that the caller needs.
-pub trait Gathers {
+pub trait RecordCollection {
     /// The records of the collection, in the order in which they were added.
-    ghost gathered: { Self → List ResourceRecord };
+    ghost records: { Self → List ResourceRecord };
 
     /// Adds a record at the end. Fails only if allocation fails.
     fn add(&mut self, one: &Record) -> Result<(), AllocError>
-        ensures { OnOk result (gathered self.new ≡ gathered self.old ++ one.now ∷ []) };
+        ensures { OnOk result (records self.new ≡ records self.old ++ one.now ∷ []) };
 }
 
 /// A list of whole records.
@@ -22,8 +22,8 @@ pub(crate) struct WholeRecords {
     pub(crate) records: Vec<Record>,
 }
 
-impl Gathers for WholeRecords {
-    ghost gathered = { λ w. w.records.items };
+impl RecordCollection for WholeRecords {
+    ghost records = { λ w. w.records.items };
 
     fn add(&mut self, one: &Record) -> Result<(), AllocError> {
         let copy = one.copied(self.alloc)?;

@@ -1,7 +1,7 @@
 use Rattle.dns_master.proofs.Common.{rules, subst, none-some, Octets, fault_at, ReaderMeans, fault_handed_on}
-use Rattle.dns_master.proofs.PieceSteps.{all-faulty, all-gathered, all-too_long}
+use Rattle.dns_master.proofs.PieceSteps.{all-faulty, all-added, all-too_long}
 use Rattle.dns_master.proofs.Refusals.{refused, entry-told, OfEntry-map}
-use Rattle.dns_master.proofs.pieces.Begun.finish.Goals as goal
+use Rattle.dns_master.proofs.pieces.PieceReader.finish.Goals as goal
 
 pub returns-in_err-take_entries-clause-err : goal.returns-in_err-take_entries-clause-err
 returns-in_err-take_entries-clause-err g c =
@@ -15,4 +15,4 @@ pub returns-then-goes_on-clause-err : goal.returns-then-goes_on-clause-err
 returns-then-goes_on-clause-err g c = search (rules, entry-told, refused, all-too_long, none-some)
 
 pub returns-clause-ok : goal.returns-clause-ok
-returns-clause-ok g c = search (rules, all-gathered, none-some)
+returns-clause-ok g c = search (rules, all-added, none-some)

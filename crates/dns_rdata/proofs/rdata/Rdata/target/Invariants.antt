@@ -1,5 +1,5 @@
 use Rattle.dns_rdata.proofs.Common.{◌≡◌, All, length, first_name, target, HasName}
-use Rattle.dns_rdata.proofs.rdata.Rdata.target_ref.Given as goal
+use Rattle.dns_rdata.proofs.rdata.Rdata.target.Given as goal
 
 -- the first name among the remaining parts is the target
 abbrev pub invariant-parts : goal.invariant-parts

@@ -1,5 +1,5 @@
 use Rattle.dns_rdata.proofs.PartLemmas.{names_left, few_parts}
-use Rattle.dns_rdata.proofs.parts.Parts.new.Goals as goal
+use Rattle.dns_rdata.proofs.rdata.Rdata.parts.Goals as goal
 
 pub returns-clause-names : goal.returns-clause-names
 returns-clause-names c = names_left c.fields_of_type.result.now c.args.octets.now

@@ -1,6 +1,0 @@
-use Rattle.dns_master.proofs.Common.{rules}
-use Rattle.dns_master.proofs.PieceSteps.{nothing-gathered, piece-taken}
-use Rattle.dns_master.proofs.pieces.Begun.take_piece.Goals as goal
-
-pub returns-else-len-self-clause-ok : goal.returns-else-len-self-clause-ok
-returns-else-len-self-clause-ok g c = search (rules, piece-taken, nothing-gathered)
