@@ -1,16 +1,21 @@
 -- The list of faults is written as the definitions have it.
 use Rattle.dns_tools.proofs.Common.{◌≡◌, ℕ, ◌+◌, ◌<◌, ◌==◌, ◌&&◌, Bool, true, false, List, [], ◌∷◌, ◌++◌, length, take, drop, get_or, ne_eqb, refl, sym, ap, ◌∙◌, arith, codes, decimal, flat_map, filter, append_assoc, append-nil, length-append, drop-cons, add-one, if◌then◌else◌, Octets, DomainName, folded, ResourceRecord, zone_of, Fault, Report, fault_report, two_digits, fault_code, faults, name_text, Option, Some, Counted, Appends-nil, Appends, AppendsBeginning, ZoneContents, Result, Ok, Err, IsErrAnd, Stop, Memory, Source, Sink, ReportedAs, GivesMeaning, IsRead, records, false≢true, subst}
-use Rattle.std.specs.Prelude.{map}
+use Rattle.std.specs.Prelude.{map, cond}
 use Rattle.std.proofs.lemmas.List.Folds.{flat_map-map}
+use Rattle.std.specs.Vec.{vec_len}
+use Rattle.dns_spec.proofs.Common.{length-map}
 use Rattle.dns_spec.specs.Meaning.{Means}
 use Rattle.dns_spec.proofs.ZoneTexts.NoFault.{no_fault}
 use Rattle.dns_tools.proofs.CheckedZone.{report_begun}
-use Rattle.dns_tools.proofs.LineParts.{IsLeft}
+use Rattle.dns_tools.proofs.LineParts.{IsLeft, fault_written}
 use Rattle.dns_spec.specs.AllFaults.{AllFaults, EntryFault, ListsFaults, is_lasting, listing, entry_report, more_report, number_text, position_text, zone_faults, most_listed, line_at, column_at}
 use Rattle.dns_master.specs.FaultListForm.{IsList, ListsText, ReadsOctets}
 use Rattle.dns_master.specs.ListingForm.{shown_fault}
 use Rattle.dns_master.specs.declared.scanned.EntryFault as code
 use Rattle.dns_master.specs.declared.listing.FaultList.{FaultList}
+use Rattle.dns_zone.specs.FaultForm.{numbered_owner, fault_of, faults_of, zone_in, faults_in}
+use Rattle.dns_zone.specs.declared.build_fault.CheckFault.{CheckFault}
+use Rattle.dns_zone.specs.declared.build_fault.CheckFaults.{CheckFaults}
 use Rattle.dns_tools.specs.Listed.{ListedAs, list_report}
 
 -- the line for a fault of a list
@@ -76,6 +81,57 @@ all_left contents old whole = record {
   written = record { done = []; appended = Appends-nil _; whole_is = refl };
   counted = refl;
 }
+
+-- the line for a fault of a zone
+abbrev pub check_line : CheckFaults → CheckFault → Octets
+check_line zone fault = fault_report (fault_of (zone_in zone) fault)
+
+pub check_written : (zone : CheckFaults) (fault : CheckFault) {owner : DomainName}
+    → owner ≡ numbered_owner (zone_in zone) fault.owner
+    → name_text owner ++ (codes " Z" ++ (two_digits fault.code ++ (codes "\n" ++ [])))
+    ≡ check_line zone fault
+check_written zone fault {owner} e =
+    fault_written {f = record { owner = owner; code = fault.code }}
+    (ap (λ (n : DomainName). record { owner = n; code = fault.code }) e)
+
+-- the line of the next fault of a zone, and the lines after it
+pub next_check : (zone : CheckFaults) (xs : List CheckFault) (i : ℕ) (f : CheckFault)
+    → xs ≡ zone.found.items → i < length xs → flat_map (check_line zone) (drop i zone.found.items)
+    ≡ check_line zone (get_or xs i f) ++ flat_map (check_line zone) (drop (i + 1) zone.found.items)
+next_check zone xs i f is less = go (check_line zone) zone.found.items is
+  where
+    go : (line : CheckFault → Octets) (items : List CheckFault) → xs ≡ items
+        → flat_map line (drop i items)
+        ≡ line (get_or xs i f) ++ flat_map line (drop (i + 1) items)
+    go line items is = rw (← is, drop-cons xs i f, add-one) refl
+
+-- no line for a fault of a zone is written yet
+pub all_checked : {V : Type 0} (contents : V → Option Octets) (old : Counted V)
+    (zone : CheckFaults) → IsLeft contents old old (flat_map fault_report (faults_in zone))
+    (flat_map (check_line zone) zone.found.items)
+all_checked contents old zone =
+    rw (flat_map-map fault_report (fault_of (zone_in zone)) zone.found.items)
+    (all_left contents old _)
+
+pub faults_count : (zone : CheckFaults) → vec_len zone.found ≡ length (faults_in zone)
+faults_count zone =
+    omega (arith, zone.found.ok.0, length-map zone.found.items (fault_of (zone_in zone)))
+
+-- the faults that last
+pub lasting_faults : (z : ZoneContents) (fs : List CheckFault)
+    → faults_of z (filter (λ (f : CheckFault). is_lasting f.code) fs)
+    ≡ filter (λ (g : Fault). is_lasting g.code) (faults_of z fs)
+lasting_faults z [] = refl
+lasting_faults z (f ∷ fs) = go (is_lasting f.code) (lasting_faults z fs)
+  where
+    go : (b : Bool) → faults_of z (filter (λ (f : CheckFault). is_lasting f.code) fs)
+        ≡ filter (λ (g : Fault). is_lasting g.code) (faults_of z fs)
+        → faults_of z (cond b (f ∷ filter (λ (f : CheckFault). is_lasting f.code) fs)
+        (filter (λ (f : CheckFault). is_lasting f.code) fs))
+        ≡ cond b (fault_of z f ∷ filter (λ (g : Fault). is_lasting g.code) (faults_of z fs))
+        (filter (λ (g : Fault). is_lasting g.code) (faults_of z fs))
+    go true e = ap (λ gs. fault_of z f ∷ gs) e
+    go false e = e
 
 not_empty : {A : Type 0} (xs : List A) → 0 < length xs → (length xs == 0) ≡ false
 not_empty xs some = ne_eqb (length xs) 0 (λ e. absurd (omega arith))

@@ -13,6 +13,7 @@ use Rattle.dns_master.specs.declared.read_fault.ReadCode.{ReadCode}
 use Rattle.dns_master.specs.declared.read_fault.ReadCode.TheVariants.{SourceFailed, NoMemory}
 use Rattle.dns_master.specs.declared.read_fault.ReadFault.{ReadFault}
 use Rattle.dns_master.specs.Codes.{fault_of}
+use Rattle.dns_zone.specs.FaultForm.{faults_in}
 use Rattle.dns_tools.specs.declared.stop.Stop.TheVariants.{Memory, Source, Sink}
 use Rattle.dns_tools.specs.declared.load.Refusal.{Refusal}
 use Rattle.dns_tools.specs.declared.load.Refusal.TheVariants.{File, Zone}
@@ -29,7 +30,7 @@ LoadedAs known left o (Ok zone) =
     × (faults (zone_of (folded o) rs) ≡ []) × (zone ≡ ordered_zone (folded o) rs)
 LoadedAs known left o (Err (Refused (Zone found))) =
     (rs : List ResourceRecord) × IsRead known left (folded o) (records rs)
-    × (found.items ≡ faults (zone_of (folded o) rs)) × (faults (zone_of (folded o) rs) ≢ [])
+    × (faults_in found ≡ faults (zone_of (folded o) rs)) × (faults (zone_of (folded o) rs) ≢ [])
 LoadedAs known left o (Err (Refused (File fault))) =
     IsRead known left (folded o) (fault_at (fault_of fault.code) fault.line)
 LoadedAs known left o (Err (Stopped stop)) = ⊤
@@ -46,7 +47,7 @@ fault_of_read fault = fault_by_code fault fault.code
 -- the report on a refused file
 abbrev pub refusal_report : Refusal → Octets
 refusal_report (File fault) = line_report (fault_of fault.code) fault.line
-refusal_report (Zone found) = flat_map fault_report found.items
+refusal_report (Zone found) = flat_map fault_report (faults_in found)
 
 -- the failure count of the source after a load: one more if and only if reading the source failed
 abbrev pub failures_after_load : {A : Type 0} → ℕ → Result A LoadFault → ℕ

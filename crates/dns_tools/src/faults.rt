@@ -12,6 +12,7 @@ ghost use Rattle.dns_spec.specs.AllFaults.{entry_report, line_at, column_at};
 ghost use Rattle.dns_master.specs.FaultListForm.{IsList};
 ghost use Rattle.dns_master.specs.ListingForm.{shown_fault};
 ghost use Rattle.dns_name.specs.Counted.{Writes};
+ghost use Rattle.dns_zone.specs.FaultForm.{faults_in};
 ghost use Rattle.dns_tools.specs.Checked.{ReportedAs};
 ghost use Rattle.dns_tools.specs.Listed.{ListedAs, stop_of_code, list_report, IsAt};
 ghost use Rattle.dns_tools.specs.declared.stop.Stop.TheVariants.{Memory};
@@ -22,7 +23,7 @@ use crate::report::write_check_faults;
 use crate::stop::{Outcome, Stop};
 use dns_master::{EntryFault, FaultList, ReadCode, ReadFault, list_text, read_octets};
 use dns_name::{Name, SinkFailed, Tally};
-use dns_zone::{BuildFault, CheckFault, Store};
+use dns_zone::{BuildFault, CheckFaults, Store};
 use std::alloc::Global;
 use std::io::{Read, Write};
 
@@ -86,8 +87,8 @@ fn list_zone<W: Write>(alloc: Global, origin: &Name, store: Store, sink: &mut Ta
     ensures sink { sink.new.failures ≡ sink_failures_after sink.old.failures result }
 {
     let zone = zone_faults(alloc, origin, store)?;
-    write_check_faults(zone.as_slice(), sink)?;
-    Ok(zone.is_empty())
+    write_check_faults(&zone, sink)?;
+    Ok(zone.found.is_empty())
 }
 
 // Lists the faults of the text of a file.
@@ -101,18 +102,18 @@ fn list_file<W: Write>(alloc: Global, origin: &Name, text: &[u8], sink: &mut Tal
     let mut store = Store::new(alloc);
     let list = list_text(alloc, &origin.fold(), text, &mut store)?;
     let zone = listed(&list, zone_faults(alloc, origin, store)?);
-    write_list(&list, zone.as_slice(), text, sink)?;
-    Ok(list.faults.is_empty() && zone.is_empty())
+    write_list(&list, &zone, text, sink)?;
+    Ok(list.faults.is_empty() && zone.found.is_empty())
 }
 
 // The faults of the zone of these records.
-fn zone_faults(alloc: Global, origin: &Name, store: Store) -> Result<Vec<CheckFault>, Stop>
+fn zone_faults(alloc: Global, origin: &Name, store: Store) -> Result<CheckFaults, Stop>
     requires { length store ≤ most_records }
-    ensures ok { IfOk result (λ found. found.items ≡ faults (zone_of origin.now store)) }
+    ensures ok { IfOk result (λ found. faults_in found ≡ faults (zone_of origin.now store)) }
     ensures err { IfErr result (λ stop. stop ≡ Memory) }
 {
     match store.check(alloc, origin) {
-        Ok(_) => Ok(Vec::new(alloc)),
+        Ok(_) => Ok(CheckFaults::none(alloc)),
         Err(BuildFault::Faults(faults)) => Ok(faults),
         Err(BuildFault::NoMemory) => Err(Stop::Memory),
     }
@@ -120,12 +121,12 @@ fn zone_faults(alloc: Global, origin: &Name, store: Store) -> Result<Vec<CheckFa
 
 // The faults of a zone that are listed beside the faults of its file: all, if the file has none;
 // else those that no further record removes.
-fn listed(list: &FaultList, mut zone: Vec<CheckFault>) -> Vec<CheckFault>
+fn listed(list: &FaultList, mut zone: CheckFaults) -> CheckFaults
     ensures { (found : List all.EntryFault) (z : ZoneContents) → IsList list.now found
-        → zone.items ≡ faults z → result.items ≡ all.zone_faults found z }
+        → faults_in zone ≡ faults z → faults_in result ≡ all.zone_faults found z }
 {
     if !list.faults.is_empty() {
-        zone.retain(|fault| is_lasting(fault.code));
+        zone.found.retain(|fault| is_lasting(fault.code));
     }
     zone
 }
@@ -139,13 +140,13 @@ fn is_lasting(code: u8) -> bool
 
 fn write_list<W: Write>(
     list: &FaultList,
-    zone: &[CheckFault],
+    zone: &CheckFaults,
     text: &[u8],
     sink: &mut Tally<W>,
 ) -> Result<(), SinkFailed>
     requires { sink.old.failures < 2 ^ 64 - 1 }
     ensures { Writes W.contents sink.old sink.new result
-        (list_report text.now list.now ++ flat_map fault_report zone.now) }
+        (list_report text.now list.now ++ flat_map fault_report (faults_in zone.now)) }
 {
     write_entry_faults(list, text, sink)?;
     write_check_faults(zone, sink)

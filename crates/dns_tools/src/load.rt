@@ -10,7 +10,7 @@ use crate::report::write_check_faults;
 use crate::stop::Stop;
 use dns_master::{ReadCode, ReadFault};
 use dns_name::{Name, SinkFailed, Tally};
-use dns_zone::{BuildFault, CheckFault, CheckedZone, Store, Zone};
+use dns_zone::{BuildFault, CheckFaults, CheckedZone, Store, Zone};
 use std::alloc::{AllocError, Global};
 use std::io::{Read, Write};
 
@@ -19,8 +19,8 @@ use std::io::{Read, Write};
 pub enum Refusal {
     /// The first fault of the file, and the line on which its entry begins.
     File(ReadFault),
-    /// The faults of the zone, ordered by owner, then by code.
-    Zone(Vec<CheckFault>),
+    /// The faults of the zone.
+    Zone(CheckFaults),
 }
 
 /// Why no zone was loaded.
@@ -100,6 +100,6 @@ pub fn write_refusal<W: Write>(refusal: &Refusal, sink: &mut Tally<W>) -> Result
             ];
             write_parts(line.as_slice(), sink)
         }
-        Refusal::Zone(faults) => write_check_faults(faults.as_slice(), sink),
+        Refusal::Zone(faults) => write_check_faults(faults, sink),
     }
 }

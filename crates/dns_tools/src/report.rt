@@ -3,23 +3,26 @@ ghost use Rattle.std.specs.Prelude.{◌-◌, ◌^◌, ◌<◌};
 ghost use Rattle.std.specs.List.{flat_map};
 ghost use Rattle.dns_spec.specs.Report.{fault_report, loaded_report, serving_report};
 ghost use Rattle.dns_name.specs.Counted.{Writes};
+ghost use Rattle.dns_zone.specs.FaultForm.{faults_in};
 
 use crate::line_parts::{LinePart, write_parts};
 use dns_name::{SinkFailed, Tally};
-use dns_zone::{CheckFault, CheckedZone, Zone};
+use dns_zone::{CheckFaults, CheckedZone, Zone};
 use std::io::Write;
 
 /// Writes a line for each fault of the zone: `www.example. Z06`.
 pub(crate) fn write_check_faults<W: Write>(
-    faults: &[CheckFault],
+    faults: &CheckFaults,
     sink: &mut Tally<W>,
 ) -> Result<(), SinkFailed>
     requires { sink.old.failures < 2 ^ 64 - 1 }
-    ensures { Writes W.contents sink.old sink.new result (flat_map fault_report faults.now) }
+    ensures { Writes W.contents sink.old sink.new result
+        (flat_map fault_report (faults_in faults.now)) }
 {
-    'faults: for fault in faults {
+    'faults: for fault in faults.found.as_slice() {
+        let owner = faults.owner(fault).to_name();
         let line = [
-            LinePart::Name(&fault.owner),
+            LinePart::Name(&owner),
             LinePart::Text(b" Z"),
             LinePart::Code(fault.code),
             LinePart::Text(b"\n"),

@@ -42,7 +42,8 @@ pub use Rattle.dns_zone.specs.NamesForm.{AreChecked, AreOwners, ComesNext, IsChe
 pub use Rattle.dns_zone.specs.NodeForm.{IsZoneNode, IsZoneTree, child_label, child_rows, node_at}
 pub use Rattle.dns_zone.specs.Nodes.{IsNode, IsSetOf, Walk, ZoneNode}
 pub use Rattle.dns_zone.specs.OwnerForm.{IsOwner, NameOfZone, is_exchange_alias, is_exchange_type, is_other_type, is_plain_type, is_server_alias, is_server_lost, number_of}
-pub use Rattle.dns_zone.specs.ReportedForm.{begins_with_owner, failed_from, owners_once}
+pub use Rattle.dns_zone.specs.FaultForm.{failed_from, fault_of, faults_in, faults_of, numbered_owner, zone_in}
+pub use Rattle.dns_zone.specs.ReportedForm.{begins_with_owner, owners_once}
 unfoldable pub use Rattle.dns_zone.specs.ReportedForm.{reported_at}
 pub use Rattle.dns_zone.specs.SetForm.{AreOfType, data_of, set_of_type}
 pub use Rattle.dns_zone.specs.SetWalks.{begins_with_type, sets_ended}
@@ -51,6 +52,7 @@ pub use Rattle.dns_zone.specs.TreeForm.{AreChildren, IsChild, IsRow, IsTree, fir
 unfoldable pub use Rattle.dns_zone.specs.TreeForm.{row_name, row_octets}
 pub use Rattle.dns_zone.specs.TreeSteps.{AddsChildren}
 pub use Rattle.dns_zone.specs.ZoneForm.{AreOrdered, IsBuilt, IsCanonical, IsFront, is_chosen}
+pub use Rattle.dns_zone.specs.declared.build_fault.CheckFault.{CheckFault}
 pub use Rattle.dns_zone.specs.declared.names.CheckedName.{CheckedName}
 pub use Rattle.dns_zone.specs.declared.order.sort_key.SortKey.{SortKey}
 pub use Rattle.dns_zone.specs.declared.tree.lower_case.TheConstants.{LOWER_CASE}

@@ -1,5 +1,6 @@
 -- The names for which faults are reported: the origin, and each owner once.
-use Rattle.dns_zone.proofs.Common.{◌≡◌, ℕ, suc, Bool, true, false, cond, ◌⊎◌, inl, inr, List, [], ◌∷◌, ◌++◌, map, refl, sym, ap₂, ◌==◌, ◌&&◌, filter, is_gt, Less, arith, false≢true, true≢false, and_parts, eqb-true, if◌then◌else◌, DomainName, folded, same, name_order, ResourceRecord, ZoneContents, distinct, Check, checks, checked_names, folded_folded, name_tie, name_order_total, lower_equal, Lower, tied_back, alike_right, AllByRecursion, Among, Rises, each_weaker, sort_rises, apart_distinct, distinct_among, sort_among, among_sort, among_distinct, same_risen, failed_from, begins_with_owner, owners_once, reported_at}
+use Rattle.dns_zone.proofs.Common.{◌≡◌, ℕ, suc, Bool, true, false, cond, ◌⊎◌, inl, inr, List, [], ◌∷◌, ◌++◌, map, refl, sym, ap₂, ◌==◌, ◌&&◌, filter, is_gt, Less, arith, false≢true, true≢false, and_parts, eqb-true, if◌then◌else◌, DomainName, folded, same, name_order, ResourceRecord, ZoneContents, distinct, Check, checks, checked_names, folded_folded, name_tie, name_order_total, lower_equal, Lower, tied_back, alike_right, AllByRecursion, Among, Rises, each_weaker, sort_rises, apart_distinct, distinct_among, sort_among, among_sort, among_distinct, same_risen, failed_from, begins_with_owner, owners_once, reported_at, Fault, CheckFault, fault_of, faults_of, numbered_owner, subst, ap, ◌∙◌, map-append}
+use Rattle.dns_spec.specs.Checks.{faults_at}
 use Rattle.dns_zone.proofs.NameOrder.{same-is, same-from, same-tied}
 use Rattle.dns_zone.proofs.AtName.{OwnerNotAfter}
 use Rattle.dns_spec.proofs.General.Pairs.{Pairs}
@@ -9,27 +10,43 @@ abbrev rise_by_one : ℕ → List (ℕ × Check) → Bool
 rise_by_one k [] = true
 rise_by_one k (c ∷ cs) = c.0 == k && rise_by_one (suc k) cs
 
-failed_in_order : (z : ZoneContents) (n : DomainName) (k : ℕ) (cs : List (ℕ × Check))
-    → rise_by_one k cs ≡ true → failed_from n k (map (λ (c : ℕ × Check). c.1 z n) cs) ≡ map
-    (λ (c : ℕ × Check). record { owner = n; code = c.0 }) (filter (λ (c : ℕ × Check). c.1 z n) cs)
-failed_in_order z n k [] h = refl
-failed_in_order z n k (c ∷ cs) h =
-    let both = and_parts (c.0 == k) (rise_by_one (suc k) cs) h in
-    go (eqb-true c.0 k both.0) (c.1 z n) (failed_in_order z n (suc k) cs both.1)
-  where
-    go : c.0 ≡ k → (b : Bool) → failed_from n (suc k) (map (λ (d : ℕ × Check). d.1 z n) cs) ≡ map (λ
-        (d : ℕ × Check). record { owner = n; code = d.0 }) (filter (λ (d : ℕ × Check). d.1 z n) cs)
-        → (if b then record { owner = n; code = k } ∷ [] else [])
-        ++ failed_from n (suc k) (map (λ (d : ℕ × Check). d.1 z n) cs)
-        ≡ map (λ (d : ℕ × Check). record { owner = n; code = d.0 }) (cond b
-        (c ∷ filter (λ (d : ℕ × Check). d.1 z n) cs) (filter (λ (d : ℕ × Check). d.1 z n) cs))
-    go f true e = ap₂ (λ (i : ℕ) fs. record { owner = n; code = i } ∷ fs) (sym f) e
-    go f false e = e
+-- the faults of the owner with a number
+module _ (z : ZoneContents) (i : ℕ) where
+  abbrev fails : ℕ × Check → Bool
+  fails c = c.1 z (numbered_owner z i)
 
-pub failed_reported : (z : ZoneContents) (n : DomainName)
-    → failed_from n 1 (map (λ (c : ℕ × Check). c.1 z n) checks) ≡ reported_at z n
-unfolding reported_at
-failed_reported z n = failed_in_order z n 1 checks refl
+  abbrev as_fault : ℕ × Check → Fault
+  as_fault c = record { owner = numbered_owner z i; code = c.0 }
+
+  failed_in_order : (k : ℕ) (cs : List (ℕ × Check)) → rise_by_one k cs ≡ true
+      → faults_of z (failed_from i k (map fails cs)) ≡ map as_fault (filter fails cs)
+  failed_in_order k [] h = refl
+  failed_in_order k (c ∷ cs) h =
+      let both = and_parts (c.0 == k) (rise_by_one (suc k) cs) h in
+      go (eqb-true c.0 k both.0) (fails c) (failed_in_order (suc k) cs both.1)
+    where
+      go : c.0 ≡ k → (b : Bool)
+          → faults_of z (failed_from i (suc k) (map fails cs)) ≡ map as_fault (filter fails cs)
+          → faults_of z ((if b then record { owner = i; code = k } ∷ [] else [])
+          ++ failed_from i (suc k) (map fails cs))
+          ≡ map as_fault (cond b (c ∷ filter fails cs) (filter fails cs))
+      go f true e =
+          ap₂ (λ (j : ℕ) fs. record { owner = numbered_owner z i; code = j } ∷ fs) (sym f) e
+      go f false e = e
+
+  failed_reported : (n : DomainName) → numbered_owner z i ≡ n
+      → faults_of z (failed_from i 1 (map (λ (c : ℕ × Check). c.1 z n) checks)) ≡ reported_at z n
+  unfolding reported_at
+  failed_reported n e =
+      subst (λ m. faults_of z (failed_from i 1 (map (λ (c : ℕ × Check). c.1 z m) checks))
+      ≡ faults_at z m) e (failed_in_order 1 checks refl)
+
+  pub more_reported : (n : DomainName) → numbered_owner z i ≡ n → (old new : List CheckFault)
+      → new ≡ old ++ failed_from i 1 (map (λ (c : ℕ × Check). c.1 z n) checks)
+      → faults_of z new ≡ faults_of z old ++ reported_at z n
+  more_reported n e old new f =
+      ap (faults_of z) f ∙ map-append (fault_of z) old _
+      ∙ ap (λ fs. faults_of z old ++ fs) (failed_reported n e)
 
 each_once : (P : DomainName → Type 0) (rs : List ResourceRecord)
     → AllByRecursion (λ r. P (folded r.owner)) rs → AllByRecursion P (owners_once rs)

@@ -8,6 +8,7 @@ pub mod NodeForm
 pub mod SetWalks
 pub mod NamesForm
 pub mod OwnerForm
+pub mod FaultForm
 pub mod ReportedForm
 pub mod KeyForm
 pub mod OwnerKeysForm

@@ -1,16 +1,8 @@
 -- The order in which faults are reported.
-use Rattle.std.specs.Prelude.{◌≡◌, ℕ, suc, Bool, false, List, [], ◌∷◌, ◌++◌, All, if◌then◌else◌}
-use Rattle.std.specs.List.{filter}
+use Rattle.std.specs.Prelude.{Bool, false, List, [], ◌∷◌, ◌++◌, if◌then◌else◌}
 use Rattle.dns_spec.specs.Names.{DomainName, folded, same}
-use Rattle.dns_spec.specs.Records.{ResourceRecord, ZoneContents, at}
+use Rattle.dns_spec.specs.Records.{ResourceRecord, ZoneContents}
 use Rattle.dns_spec.specs.Checks.{Fault, faults_at}
-use Rattle.dns_zone.specs.ZoneForm.{AreOrdered}
-
--- the faults of a name; the list says which checks the name fails, from the check with `code` on
-abbrev pub failed_from : DomainName → ℕ → List Bool → List Fault
-failed_from n code [] = []
-failed_from n code (fails ∷ rest) = (if fails then record { owner = n; code = code } ∷ [] else [])
-    ++ failed_from n (suc code) rest
 
 -- the first record's owner is the name
 abbrev pub begins_with_owner : DomainName → List ResourceRecord → Bool

@@ -6,6 +6,7 @@ use Rattle.dns_spec.specs.Records.{ResourceRecord, ZoneContents, sort_by, record
 use Rattle.dns_spec.specs.Checks.{faults, Passes}
 use Rattle.dns_spec.specs.Meaning.{most_records}
 use Rattle.dns_spec.specs.ZonePrinted.{IsReadRecord, is_soa}
+use Rattle.dns_zone.specs.FaultForm.{faults_in}
 use Rattle.dns_zone.specs.declared.build_fault.BuildFault.{BuildFault}
 use Rattle.dns_zone.specs.declared.build_fault.BuildFault.TheVariants.{Faults, NoMemory}
 
@@ -31,7 +32,7 @@ pub record IsBuilt (z : ZoneContents) : Type 0 where
 -- What the error says if a zone can't be built: all faults of the zone, at least one, or nothing if
 -- allocation failed.
 abbrev pub ReportsFaults : BuildFault → ZoneContents → Type 0
-ReportsFaults (Faults found) z = (found.items ≡ faults z) × (faults z ≢ [])
+ReportsFaults (Faults found) z = (faults_in found ≡ faults z) × (faults z ≢ [])
 ReportsFaults NoMemory z = ⊤
 
 -- whether a record is an SOA, or, if `soa` is false, whether it is not

@@ -8,7 +8,7 @@ ghost use Rattle.dns_spec.specs.Meaning.{most_records};
 ghost use Rattle.dns_spec.specs.ZonePrinted.{is_soa};
 ghost use Rattle.dns_zone.specs.ZoneForm.{IsBuilt, ReportsFaults};
 
-use crate::build_fault::BuildFault;
+use crate::build_fault::{BuildFault, CheckFaults};
 use crate::checks::faults;
 use crate::order::sort::sorted;
 use crate::shared_slice::SharedSlice;
@@ -69,9 +69,9 @@ impl Store {
     /// Checks the records as `Zone::build` does. The zone contains them without duplicates
     /// (RFC 2181 5), in canonical order (RFC 4034 6.1, 6.3).
     ///
-    /// Fails with `Faults`, which contains all faults of the zone, or, only if allocation fails,
-    /// with `NoMemory`. The records are freed in either case. Precondition: there are at most
-    /// 100,000 records, as in a zone file.
+    /// Fails with `Faults`, which has all faults of the zone and keeps its records, or, only if
+    /// allocation fails, with `NoMemory`. Precondition: there are at most 100,000 records, as in a
+    /// zone file.
     pub fn check(self, alloc: Global, origin: &Name) -> Result<CheckedZone, BuildFault>
         requires { length self ≤ most_records }
         ensures ok { IfOk result (λ zone. zone ≡ ordered_zone origin.now self) }
@@ -83,7 +83,11 @@ impl Store {
         let (records, keyed) = sorted(alloc, &origin.borrowed(), entries)?;
         let found = faults(alloc, &origin.borrowed(), records.as_slice(), &keyed)?;
         if !found.is_empty() {
-            return Err(BuildFault::Faults(found));
+            return Err(BuildFault::Faults(CheckFaults {
+                origin,
+                records,
+                found,
+            }));
         }
         let records = SharedSlice::new(records);
         Ok(CheckedZone { origin, records })

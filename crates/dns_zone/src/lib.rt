@@ -13,7 +13,7 @@ mod store;
 mod tree;
 mod zone;
 
-pub use build_fault::{BuildFault, CheckFault};
+pub use build_fault::{BuildFault, CheckFault, CheckFaults};
 pub use checked::CheckedZone;
 pub use printed::{PrintFault, print};
 pub use store::Store;

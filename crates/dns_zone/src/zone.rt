@@ -38,9 +38,8 @@ impl Zone {
     /// Builds the zone with this origin and these records. Its records are without duplicates
     /// (RFC 2181 5), in canonical order (RFC 4034 6.1, 6.3).
     ///
-    /// Fails with `Faults`, which contains all faults of the zone, or, only if allocation fails,
-    /// with `NoMemory`. The records are freed in either case. Precondition: there are at most
-    /// 100,000 records, as in a zone file.
+    /// Fails as `Store::check` does. Precondition: there are at most 100,000 records, as in a zone
+    /// file.
     pub fn build(alloc: Global, origin: &Name, records: Vec<Record>) -> Result<Zone, BuildFault>
         requires { length records.items ≤ most_records }
         ensures ok { IfOk result (λ zone. zone ≡ ordered_zone origin.now records.items) }

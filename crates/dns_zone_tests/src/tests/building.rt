@@ -4,7 +4,7 @@ use crate::built;
 use dns_master::{Record, read_zone};
 use dns_name::{Name, Tally};
 use dns_samples_tests::{SMALL, SMALL_PRINTED};
-use dns_zone::{BuildFault, CheckFault, CheckedZone, Store, Zone, print};
+use dns_zone::{BuildFault, CheckFaults, CheckedZone, Store, Zone, print};
 use std::alloc::{AllocError, Global};
 use std::test::Fail;
 
@@ -66,10 +66,10 @@ const FAULTS: &[(&str, &str, &[Reported<'static>])] = &[
     ),
 ];
 
-fn are_reported(faults: &[CheckFault], wanted: &[Reported<'_>]) -> bool {
-    let mut are_alike = faults.len() == wanted.len();
-    for (fault, (owner, code)) in faults.iter().zip(wanted) {
-        are_alike &= (fault.owner.octets() == *owner) & (fault.code == *code);
+fn are_reported(faults: &CheckFaults, wanted: &[Reported<'_>]) -> bool {
+    let mut are_alike = faults.found.len() == wanted.len();
+    for (fault, (owner, code)) in faults.found.iter().zip(wanted) {
+        are_alike &= (faults.owner(fault).octets() == *owner) & (fault.code == *code);
     }
     are_alike
 }

@@ -1,6 +1,6 @@
 use Rattle.std.specs.Vec.{vec_len}
-use Rattle.dns_tools.proofs.Common.{◌≡◌, ◌==◌, length, arith, ap, sym, ◌∙◌}
-use Rattle.dns_tools.proofs.Listing.{file_list, file_begun, file_listed, first_empty, first_full}
+use Rattle.dns_tools.proofs.Common.{◌≡◌, ◌==◌, length, arith, ap, ◌∙◌}
+use Rattle.dns_tools.proofs.Listing.{file_list, file_begun, file_listed, faults_count, first_empty, first_full}
 use Rattle.dns_tools.proofs.faults.list_file.Goals.{then-is_empty, else-is_empty}
 use Rattle.dns_tools.proofs.faults.list_file.Goals as goal
 
@@ -10,7 +10,7 @@ returns-in_err-write_list-clause-report g c =
     file_begun _ _ stopped.result
     (file_list c.args.origin.now c.fold.result c.args.text.now c.in_ok-list.list _ _ _ _
     c.fold.ensures c.new-store.ensures c.in_ok-list.ensures c.in_ok-zone_faults.ensures.ok
-    (λ found z is e. c.as_slice.ensures.value ∙ c.listed-zone.ensures found z is e))
+    c.listed-zone.ensures)
     stopped.ensures.1 c.in_err-write_list.ensures.err
 
 pub returns-clause-report : goal.returns-clause-report
@@ -21,10 +21,10 @@ returns-clause-report g c =
     file_listed _ _ c.if-is_empty.result
     (file_list c.args.origin.now c.fold.result c.args.text.now c.in_ok-list.list _ _ _ _
     c.fold.ensures c.new-store.ensures c.in_ok-list.ensures c.in_ok-zone_faults.ensures.ok
-    (λ found z is e. c.as_slice.ensures.value ∙ c.listed-zone.ensures found z is e))
+    c.listed-zone.ensures)
     (elim c.if-is_empty.branch [
       | then-is_empty w ↦ first_empty _ _ first w.if-is_empty.true
-          (w.is_empty-then-is_empty.ensures ∙ ap (λ n. n == 0) (sym c.as_slice.ensures.len))
+          (w.is_empty-then-is_empty.ensures ∙ ap (λ n. n == 0) (faults_count c.listed-zone.result))
           w.result-is
       | else-is_empty w ↦ first_full _ _ first w.if-is_empty.false w.result-is
     ])

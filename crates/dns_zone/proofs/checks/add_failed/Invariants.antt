@@ -4,8 +4,8 @@ use Rattle.dns_zone.proofs.checks.add_failed.Given as goal
 -- the faults found so far and the faults of the remaining checks are all faults
 abbrev pub invariant-checks : goal.invariant-checks
 invariant-checks l = record {
-  all : l.found.items
-      ++ failed_from l.name l.code l.rest ≡ l.initial.found.items ++ failed_from l.name 1 l.failed;
+  all : l.found.items ++ failed_from l.owner l.code l.rest
+      ≡ l.initial.found.items ++ failed_from l.owner 1 l.failed;
   codes : l.code + length l.rest ≤ 255;
 }
 
