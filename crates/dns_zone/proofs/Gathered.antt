@@ -1,11 +1,8 @@
 -- Moving records to the indexes of their sort keys.
 use Rattle.dns_zone.proofs.Common.{◌≡◌, ℕ, ◌+◌, ◌<◌, ◌≤◌, ◌⊎◌, inl, inr, List, length, take, map, set, get_or, sym, ap, ◌∙◌, arith, length-map, length-take, length-set, get_or-map, get_or-take, get_or-set_same, get_or-set_other, get_or_default, min-eq_left, subst, SwappedAt, ResourceRecord, AreApart, no_record, placed, SortKey}
 use Rattle.dns_zone.proofs.SortKeyOrder.{either}
+use Rattle.dns_zone.specs.SortKeyForm.{no_sort_key}
 use Rattle.std.proofs.lemmas.List.{ext_get_or}
-
--- stands for a sort key that does not exist
-abbrev pub no_sort_key : SortKey
-no_sort_key = record { front = 0; next = 0; at = 0; start = 0 }
 
 -- The records `now` are the records `old`, moved: `record_at` has the old index of the record at
 -- each index, and `index_of` the index of each old record. The first `to` sort keys are filled.

@@ -3,6 +3,7 @@ pub mod EndingNames
 pub mod Entries
 pub mod OwnerKeys
 pub mod SortKeyOrder
+pub mod RisingKeys
 pub mod SortedKeys
 pub mod Gathered
 pub mod Targets

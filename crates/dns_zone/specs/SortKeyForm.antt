@@ -1,5 +1,5 @@
 -- Sort keys of records: their order, and what is known of them.
-use Rattle.std.specs.Prelude.{◌≡◌, ℕ, ◌-◌, ◌^◌, ◌<◌, ◌≤◌, List, [], All, length, take, drop, get_or, map}
+use Rattle.std.specs.Prelude.{◌≡◌, ℕ, ◌+◌, ◌-◌, ◌^◌, ◌<◌, ◌≤◌, List, [], All, length, take, drop, get_or, map}
 use Rattle.std.specs.Ordering.{ordering_then, nat_cmp}
 use Rattle.std.specs.declared.cmp.Ordering.{Ordering}
 use Rattle.std.specs.declared.cmp.Ordering.TheVariants.{Less, Equal, Greater}
@@ -34,6 +34,15 @@ sort_key_order keys rs first p q =
     ordering_then (nat_cmp p.front q.front) (ordering_then (nat_cmp p.next q.next)
     (ordering_then (slice_cmp nat_cmp (sorted_key keys rs first p) (sorted_key keys rs first q))
     (own_order (placed rs first p) (placed rs first q))))
+
+-- stands for a sort key that does not exist
+abbrev pub no_sort_key : SortKey
+no_sort_key = record { front = 0; next = 0; at = 0; start = 0 }
+
+-- each of the first n sort keys is less than the next
+abbrev pub RiseUpTo : (SortKey → SortKey → Ordering) → List SortKey → ℕ → Type 0
+RiseUpTo cmp ps n = (k : ℕ) → k + 1 < n
+    → cmp (get_or ps k no_sort_key) (get_or ps (k + 1) no_sort_key) ≡ Less
 
 -- The numbers of a key: its first sixteen octets after the origin's key. If it does not begin with
 -- the origin's key, the least or the greatest numbers.

@@ -1,5 +1,5 @@
 -- The names of a zone as rows of numbers, and invariants of the rows.
-use Rattle.std.specs.Prelude.{◌≡◌, ℕ, zero, suc, ◌+◌, ◌-◌, ◌/◌, ◌<◌, ◌≤◌, true, List, [], ◌∷◌, map, length, take, drop, get_or}
+use Rattle.std.specs.Prelude.{◌≡◌, ℕ, ◌+◌, ◌-◌, ◌<◌, ◌≤◌, true, List, [], ◌∷◌, map, length, take, drop, get_or}
 use Rattle.std.specs.List.{AllByRecursion, filter, list_any}
 use Rattle.std.specs.Char.{to_ascii_lowercase}
 use Rattle.dns_spec.specs.Names.{Octets, DomainName, wire, is_name, folded, same, at_or_below, label_order}

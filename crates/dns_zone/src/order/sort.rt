@@ -59,8 +59,11 @@ fn sort_distinct(
         records,
         first,
     };
-    order.sort(sort_keys)?;
-    sort_keys.dedup_by(|next, one| order.compare(next, one).is_eq());
+    let kept = order.keep_rising(sort_keys.as_mut_slice());
+    if kept < sort_keys.len() {
+        order.sort(sort_keys, kept)?;
+        sort_keys.dedup_by(|next, one| order.compare(next, one).is_eq());
+    }
     Ok(())
 }
 

@@ -1,10 +1,11 @@
 //! Sort keys of records, which are sorted in their stead.
-ghost use Rattle.std.specs.Prelude.{◌≡◌, ℕ, ◌<◌, ◌≤◌, length, get_or, OnOk};
+ghost use Rattle.std.specs.Prelude.{◌≡◌, ℕ, ◌-◌, ◌<◌, ◌≤◌, length, get_or, OnOk, IfSome};
+ghost use Rattle.std.specs.declared.cmp.Ordering.TheVariants.{Less};
 ghost use Rattle.std.specs.Cmp.Lexicographic.{slice_cmp};
 ghost use Rattle.std.specs.List.Sorted.{IsPermutation, IsSorted};
 ghost use Rattle.std.specs.Ordering.{nat_cmp, ordering_then};
 ghost use Rattle.dns_zone.specs.LabelKey.{IsEight};
-ghost use Rattle.dns_zone.specs.SortKeyForm.{own_order, placed, sorted_key, sort_key_order, AreFronts};
+ghost use Rattle.dns_zone.specs.SortKeyForm.{own_order, placed, sorted_key, no_sort_key, sort_key_order, AreFronts, RiseUpTo};
 
 use crate::order::key::key_at;
 use crate::order::own_order;
@@ -71,8 +72,8 @@ fn padded(octets: &[u8]) -> [u8; 8]
     eight
 }
 
-// The most sort keys past which one is moved back.
-const NEAR: usize = 8;
+// Fewer sort keys than these are passed by one that is moved back.
+const NEAR: usize = 7;
 
 /// The canonical order of records, by their sort keys.
 #[derive(Drop)]
@@ -85,15 +86,14 @@ pub(crate) struct Order<'a> {
 }
 
 impl<'a> Order<'a> {
-    /// Sorts sort keys. Most files list their names in order, with few exceptions. So those that
-    /// are out of order are moved to the end. If they are at most a quarter, they are merged with
-    /// the others.
-    pub(crate) fn sort(&self, sort_keys: &mut Vec<SortKey>) -> Result<(), AllocError>
+    /// Sorts sort keys, of which the first `kept` are in order. If the others are at most a quarter,
+    /// they are merged with these.
+    pub(crate) fn sort(&self, sort_keys: &mut Vec<SortKey>, kept: usize) -> Result<(), AllocError>
+        requires { kept ≤ length sort_keys.old.items }
         ensures { OnOk result (IsPermutation sort_keys.old.items sort_keys.new.items × IsSorted
             (sort_key_order self.now.keys.now self.now.records.now self.now.first.now)
             sort_keys.new.items) }
     {
-        let kept = self.keep_rising(sort_keys);
         if sort_keys.len() - kept > sort_keys.len() / 4 {
             sort_keys.sort_unstable_by(|one, other| self.compare(one, other));
             return Ok(());
@@ -102,55 +102,64 @@ impl<'a> Order<'a> {
         Ok(())
     }
 
-    // Moves sort keys that are in order to the beginning of the list, and returns how many they
-    // are. One that sorts before the last of them is moved back if it is near. Otherwise, if it sorts
-    // after the second last, it replaces the last.
-    fn keep_rising(&self, sort_keys: &mut Vec<SortKey>) -> usize
-        ensures moved { IsPermutation sort_keys.old.items sort_keys.new.items }
-        ensures count { result ≤ length sort_keys.new.items }
+    /// Moves sort keys that rise to the beginning of the list, and returns how many they are. Most
+    /// files list their names in order, with few exceptions, and some the records of a name in none.
+    /// So a sort key is moved back past a few greater ones. If these are many, they are the
+    /// exceptions, and are left out.
+    pub(crate) fn keep_rising(&self, sort_keys: &mut [SortKey]) -> usize
+        ensures moved { IsPermutation sort_keys.old sort_keys.new }
+        ensures count { result ≤ length sort_keys.new }
+        ensures rising { RiseUpTo
+            (sort_key_order self.now.keys.now self.now.records.now self.now.first.now)
+            sort_keys.new result }
     {
         let mut kept = 0;
         'sort_keys: for at in 0..sort_keys.len() {
-            if kept == 0 || self.compare(&sort_keys[at], &sort_keys[kept - 1]).is_ge() {
-                sort_keys.swap(kept, at);
-            } else if self.is_near(sort_keys.as_slice(), kept, at) {
-                sort_keys.swap(kept, at);
-                self.move_back(sort_keys, kept);
-            } else if kept > 1 && self.compare(&sort_keys[at], &sort_keys[kept - 2]).is_ge() {
-                kept -= 1;
-                sort_keys.swap(kept, at);
-            } else {
-                continue;
+            if let Some(to) = self.index_near(sort_keys, kept, at) {
+                if kept - to < NEAR {
+                    sort_keys.swap(kept, at);
+                    sort_keys[to..kept + 1].rotate_right(1);
+                    kept += 1;
+                } else {
+                    sort_keys.swap(to, at);
+                    kept = to + 1;
+                }
             }
-            kept += 1;
         }
         kept
     }
 
-    // Whether a record is of the same owner as the last of the first `kept` ones, and sorts after
-    // all but the last eight of them. Many files have the records of an owner in no order.
-    fn is_near(&self, sort_keys: &[SortKey], kept: usize, at: usize) -> bool
-        requires some { 0 < kept }
+    // The index at which a sort key belongs among the first `kept` ones, if it is after all but the
+    // last seven of them, and equals none.
+    fn index_near(&self, sort_keys: &[SortKey], kept: usize, at: usize) -> Option<usize>
         requires kept { kept ≤ length sort_keys.now }
         requires at { at < length sort_keys.now }
+        ensures bound { IfSome result (λ to. to ≤ kept) }
+        ensures after { IfSome result (λ to. 0 < to → sort_key_order
+            self.now.keys.now self.now.records.now self.now.first.now
+            (get_or sort_keys.now (to - 1) no_sort_key) (get_or sort_keys.now at no_sort_key)
+            ≡ Less) }
+        ensures before { IfSome result (λ to. to < kept → sort_key_order
+            self.now.keys.now self.now.records.now self.now.first.now
+            (get_or sort_keys.now at no_sort_key) (get_or sort_keys.now to no_sort_key) ≡ Less) }
     {
-        let sort_key = &sort_keys[at];
-        sort_key.start == sort_keys[kept - 1].start
-            && (kept <= NEAR || self.compare(sort_key, &sort_keys[kept - 1 - NEAR]).is_ge())
-    }
-
-    // Moves the sort key at index `from` back, past those before it that it sorts before.
-    fn move_back(&self, sort_keys: &mut Vec<SortKey>, from: usize)
-        requires { from < length sort_keys.old.items }
-        ensures moved { IsPermutation sort_keys.old.items sort_keys.new.items }
-        ensures count { length sort_keys.new.items ≡ length sort_keys.old.items }
-    {
-        'back: for to in (1..from + 1).rev() {
-            if self.compare(&sort_keys[to], &sort_keys[to - 1]).is_ge() {
-                break;
+        'back: for to in (0..kept).rev() {
+            match self.compare(&sort_keys[to], &sort_keys[at]) {
+                Ordering::Less => return Some(to + 1),
+                Ordering::Equal => return None,
+                Ordering::Greater => {}
             }
-            sort_keys.swap(to, to - 1);
+            // After two comparisons, whether it belongs farther back.
+            let is_far = to + 2 == kept
+                && kept > NEAR
+                && self
+                    .compare(&sort_keys[kept - 1 - NEAR], &sort_keys[at])
+                    .is_ge();
+            if is_far {
+                return None;
+            }
         }
+        Some(0)
     }
 
     /// Compares two records by their sort keys. The numbers decide for most owners.

@@ -30,7 +30,7 @@ returns-in_err-append_word-clause-faulty g c =
     c.in-Some-split_first.ensures c.words.invariant.taken in
     let many = eqb-true _ _ (sym c.is_word_count.ensures ∙ c.if-not-is_word_count.false) in
     let index = taken_is _ _ _ c.words.index _ _ _ _ here (omega (arith, many, c.words-test.true))
-        in
+    in
     fault_handed_on c.from_residual.result fault.field-0.0 _ c.from_residual.ensures.1
     (λ other. typed_at_place c.args.rtype.0 _ _ _ _
     c.requires.not_unknown c.in-Some.ensures c.count-count.ensures _ c.words.index
@@ -44,7 +44,7 @@ returns-then-len-gt-MAX_OCTETS-clause-faulty g c = λ _.
     c.in-Some-split_first.ensures c.words.invariant.taken in
     let many = eqb-true _ _ (sym c.is_word_count.ensures ∙ c.if-not-is_word_count.false) in
     let index = taken_is _ _ _ c.words.index _ _ _ _ here (omega (arith, many, c.words-test.true))
-        in
+    in
     typed_at_place c.args.rtype.0 _ _ _ _ c.requires.not_unknown c.in-Some.ensures
     c.count-count.ensures _ c.words.index
     (sym c.if-not-is_word_count.false ∙ c.is_word_count.ensures) index

@@ -1,4 +1,4 @@
-use Rattle.dns_zone.proofs.Common.{◌≡◌, ◌-◌, ◌++◌, Bool, true, false, length, take, drop, false_from_ne_true, refl, sym, ap, ◌∙◌, take-append-drop, wire}
+use Rattle.dns_zone.proofs.Common.{◌≡◌, ◌-◌, ◌++◌, Bool, true, false, length, take, false_from_ne_true, refl, sym, ap, ◌∙◌, take-append-drop, wire}
 use Rattle.std.specs.Bool.{OnFalse}
 use Rattle.dns_zone.proofs.EndingNames.{ends_in}
 use Rattle.dns_zone.proofs.order.above.name_ends_with.Goals as goal

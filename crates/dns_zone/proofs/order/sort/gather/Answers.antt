@@ -1,5 +1,6 @@
 use Rattle.dns_zone.proofs.Common.{arith, ◌≡◌, ◌∙◌, length, get_or, get_or_default, subst}
-use Rattle.dns_zone.proofs.Gathered.{IsGathered, one_step, all_gathered, no_sort_key}
+use Rattle.dns_zone.proofs.Gathered.{IsGathered, one_step, all_gathered}
+use Rattle.dns_zone.specs.SortKeyForm.{no_sort_key}
 use Rattle.dns_zone.proofs.order.sort.gather.Goals as goal
 
 pub sort_keys-preserved : goal.sort_keys-preserved
