@@ -1,14 +1,11 @@
 -- Worked examples, computed from the definitions. `Zones` contains their zones and queries.
 pub mod Zones
 pub mod Readings
-pub mod FaultReadings
 pub mod FaultRows
-pub mod AnswerRows
 pub mod CheckRows
 pub mod CommandRows
 pub mod DataRows
 pub mod FileRows
-pub mod MeaningRows
 pub mod MessageLineRows
 pub mod MessageRows
 pub mod ReportRows

@@ -35,19 +35,14 @@ impl Case<'_> {
             .split_once("\nstandard input\n")
             .unwrap_or((asked, ""));
         let (mut asked, mut answered) = (asked.lines(), answered.lines());
-        let mut words = Vec::new(alloc);
-        for word in asked.next().unwrap_or("").split_whitespace() {
-            words.push(word)?;
-        }
-        let Ok(status) = answered.next().unwrap_or("").parse() else {
-            return Err(FaultText::SourceFailed);
-        };
+        let words = asked.next().unwrap_or("").split_whitespace();
+        let status = answered.next().unwrap_or("").parse();
         Ok(Case {
-            words,
+            words: words.collect(alloc)?,
             file: octets_of(alloc, asked)?,
             input: octets_of(alloc, input.lines())?,
             wanted: Answer {
-                status,
+                status: status.map_err(|_| FaultText::SourceFailed)?,
                 written: octets_of(alloc, answered)?,
             },
         })
@@ -59,9 +54,7 @@ impl Case<'_> {
 fn octets_of(alloc: Global, lines: Lines<'_>) -> Result<Vec<u8>, FaultText> {
     let mut octets = Vec::new(alloc);
     for line in lines {
-        let Some(line) = line.strip_prefix("|") else {
-            return Err(FaultText::SourceFailed);
-        };
+        let line = line.strip_prefix("|").ok_or(FaultText::SourceFailed)?;
         let spelled = line.strip_suffix("%");
         percent_decode(spelled.unwrap_or(line).as_bytes()).append_to(&mut octets)?;
         if spelled.is_none() {

@@ -13,11 +13,6 @@ groups_of-small (h ∷ l ∷ d) small =
       groups_of-small d (small_tail l d others),
     )
 
-pub length-groups_of : (d : Octets) → length (groups_of d) ≡ length d / 2
-length-groups_of [] = refl
-length-groups_of (h ∷ []) = refl
-length-groups_of (h ∷ l ∷ d) = omega (arith, length-groups_of d)
-
 two_octets : (h l : ℕ) → h < 256 → l < 256 → bytes_high_first 2 (256 * h + l) ≡ h ∷ l ∷ []
 two_octets h l high low = grind arith
 
@@ -81,4 +76,4 @@ text_again gs eight small = by_cases (cases_Bool (nat_lt (longest_run gs) 2))
         (omega (arith, two)) (omega (arith, front, back, inside, eight)) (around_run gs r))
 
 pub ipv6_said : (d : Octets) → length d ≡ 16 → Small d → SaysIpv6 (ipv6_text d) d
-ipv6_said d long small = grind (arith, length-groups_of, text_again, groups_of-small, octets_again)
+ipv6_said d long small = grind (arith, text_again, groups_of-small, octets_again)

@@ -73,17 +73,13 @@ unknown_fault_once : (t : ℕ) (ws : List Word) (j k : ℕ)
     → UnknownFaultIs t ws j → UnknownFaultIs t ws k → j ≡ k
 unknown_fault_once t ws j k h h' = grind arith
 
-unknown_not_said : (t : ℕ) (ws : List Word) (k : ℕ) (d : Octets) → UnknownFaultIs t ws k
-    → SaysUnknown ws d → Valid t d → length d ≤ 65535 → ⊥
-unknown_not_said t ws k d h said ok short = grind (arith, unknown_once)
-
 pub no_data_said : (t : ℕ) (ws : List Word) (origin : DomainName) (k : ℕ) (d : Octets)
     → DataFaultIs t ws origin k → Says t ws origin d → ⊥
 no_data_said t [] origin k d fault h =
     let short = leb-true _ 65535 (and_parts _ _ h.is_valid).0 in
     typed_not_said t origin [] k h.as_spelled fault h.said short
 no_data_said t (w ∷ ws) origin k d fault h =
-    grind (arith, unknown_not_said, typed_not_said, leb-true, and_parts)
+    grind (arith, typed_not_said, leb-true, and_parts)
 
 pub fault_once : (t : ℕ) (ws : List Word) (origin : DomainName) (j k : ℕ)
     → DataFaultIs t ws origin j → DataFaultIs t ws origin k → j ≡ k

@@ -1,7 +1,7 @@
 -- What holds for each element of a list, and membership in lists.
 use mathlib.Core.List.{reverse_aux}
 pub use Rattle.dns_spec.specs.Lists.{Among}
-use Rattle.dns_spec.proofs.Common.{All, List, [], ap, arith, drop, get_or, inl, inr, length, map, refl, subst, suc, sym, take, zero, ℕ, ◌++◌, ◌<◌, ◌∷◌, ◌≡◌, ◌⊎◌, AllByRecursion, Contains, flat_map, IsPermutation, get_or_default, flat_map-cons, All-contains, Contains-permutation, All-from_recursion, get_or-take, length-take, take-append-drop, ◌≤◌, map_push, reverse, reverse-append, ◌∙◌}
+use Rattle.dns_spec.proofs.Common.{All, List, [], ap, arith, drop, get_or, inl, inr, length, map, refl, subst, suc, sym, take, zero, ℕ, ◌++◌, ◌<◌, ◌∷◌, ◌≡◌, ◌⊎◌, AllByRecursion, Contains, flat_map, IsPermutation, get_or_default, flat_map-cons, All-contains, Contains-permutation, All-from_recursion, map_push, reverse, reverse-append, ◌∙◌}
 
 -- `AllByRecursion P` is a proof of P for each element: the trivial P, and a P that always holds
 pub each_any : {X : Type 0} (xs : List X) → AllByRecursion (λ _. Unit {0}) xs
@@ -188,11 +188,6 @@ among_contains a [] m = absurd m
 among_contains a (x ∷ xs) (inl e) = (zero, omega arith, sym e)
 among_contains a (x ∷ xs) (inr m) =
     let c = among_contains a xs m in (suc c.0, omega (arith, c.1), c.2)
-
-pub among_permutation : {X : Type 0} (a : X) (xs ys : List X)
-    → IsPermutation xs ys → Among a xs → Among a ys
-among_permutation a xs ys h m =
-    contains_among a ys (Contains-permutation xs ys a h (among_contains a xs m))
 
 pub among_held : {X : Type 0} (a : X) (xs ys : List X) → All (Contains ys) xs → Among a xs
     → Among a ys

@@ -7,10 +7,6 @@ pub map_some : {X Y P : Type 0} (f : X → Y) (o : Option X) (y : Y)
 map_some f None y e k = absurd (none-some y e)
 map_some f (Some x) y e k = k x refl (same_Some (f x) y e)
 
-pub then_is : {X Y : Type 0} (f : X → Option Y) (o : Option X) (x : X) (y : Y)
-    → o ≡ Some x → f x ≡ Some y → option_and_then f o ≡ Some y
-then_is f o x y e h = ap (option_and_then f) e ∙ h
-
 -- n and m are equal if they are equal in both cases of an option
 pub by_option : {X N : Type 0} {P Q : Type 0} {R S : X → Type 0} (o : Option X) (n m : N) → (P
     → Q → n ≡ m) → ((x : X) → R x → S x → n ≡ m) → MatchOption o P R → MatchOption o Q S → n ≡ m

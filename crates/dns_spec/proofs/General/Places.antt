@@ -1,5 +1,5 @@
 -- What is at an index of a list.
-use Rattle.dns_spec.proofs.Common.{◌≡◌, List, Some, [], ap, arith, drop, length, none-some, refl, same_Some, slice_get, suc, take, take-append-le, zero, ℕ, ◌++◌, ◌+◌, ◌<◌, ◌∷◌, ◌≤◌}
+use Rattle.dns_spec.proofs.Common.{◌≡◌, List, Some, [], arith, drop, length, none-some, slice_get, suc, take, take-append-le, zero, ℕ, ◌++◌, ◌+◌, ◌∷◌, ◌≤◌}
 
 -- the element at an index stays the same if the list is continued
 pub get_more : {A : Type 0} (xs ys : List A) (i : ℕ) (x : A)

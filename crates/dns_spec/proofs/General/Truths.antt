@@ -1,9 +1,6 @@
 -- Facts about tests, and sums of two cases.
 use Rattle.dns_spec.proofs.Common.{Bool, arith, false, inl, inr, not, true, ◌&&◌, ◌||◌, ◌≡◌, ◌⊎◌}
 
-pub four_tests : (a b c d : Bool) → (a && b && c && d) ≡ (a && (b && (c && d)))
-four_tests a b c d = grind arith
-
 pub in_rest : {A B C : Type 0} → A ⊎ B → (B → C) → A ⊎ C
 in_rest h h1 = grind arith
 

@@ -169,11 +169,6 @@ same_records ms p (r ∷ rs) low ends =
         → Ends p (record_laid ms p r).written (record_by place_of ms p r).written
     front ends = grind (arith, length-append, records_by)
 
--- a pointer reaches the question's name
-asked_low : (q : Option MessageQuestion)
-    → 12 + length (asked_octets q) ≤ reach → Low (asked_placed q)
-asked_low q h = grind (arith, none-some, low_more, shared_alone, length-question_octets)
-
 pub same_layout : (h : Header) (q : Option MessageQuestion) (items : List Item) → (size q items
     ≤ reach) ⊎ (unbounded_size q items ≤ reach) → layout h q items ≡ unbounded_layout h q items
 unfolding layout unbounded_layout
@@ -181,7 +176,7 @@ same_layout h q items short = go (ends short)
   where
     go : Ends 0 (layout h q items) (unbounded_layout h q items)
         → layout h q items ≡ unbounded_layout h q items
-    go e = grind (arith, length-append, asked_low, ends_front, same_records, ends_rest)
+    go e = grind (arith, length-append, ends_front, same_records, ends_rest)
 
     ends : (size q items ≤ reach) ⊎ (unbounded_size q items ≤ reach)
         → Ends 0 (layout h q items) (unbounded_layout h q items)

@@ -144,37 +144,22 @@ cut_words [] ps = refl
 cut_words (w ∷ []) ps = grind (arith, word_token)
 cut_words (w ∷ v ∷ ws) ps = grind (arith, word_token, (cut_words (v ∷ ws) ps))
 
-cut_led : (ws : List Word) (qs ps : List Token) → cut_entries false (qs ++ ps) ≡ qs ∷ cut_entries
-    false ps → cut_entries false (led ws qs ++ ps) ≡ led ws qs ∷ cut_entries false ps
-cut_led [] qs ps cut = cut
-cut_led (w ∷ ws) qs ps cut = grind (arith, (cut_led ws qs ps cut))
-
 pub line_cut : (r : ResourceRecord) (ps : List Token)
     → cut_entries false (line_tokens r ++ ps) ≡ line_tokens r ∷ cut_entries false ps
-line_cut r ps = grind (arith, cut_led, cut_words)
+line_cut r ps = grind (arith, cut_words)
 
 words_parentheses : (ws : List Word) → parentheses (words_tokens ws) ≡ []
 words_parentheses [] = refl
 words_parentheses (w ∷ []) = grind (arith, word_token)
 words_parentheses (w ∷ v ∷ ws) = grind (arith, word_token, (words_parentheses (v ∷ ws)))
 
-led_parentheses : (ws : List Word) (ps : List Token)
-    → parentheses ps ≡ [] → parentheses (led ws ps) ≡ []
-led_parentheses [] ps none = none
-led_parentheses (w ∷ ws) ps none = grind (arith, word_token, (led_parentheses ws ps none))
-
 pub line_parentheses : (r : ResourceRecord) → parentheses (line_tokens r) ≡ []
-line_parentheses r = grind (arith, led_parentheses, words_parentheses)
+line_parentheses r = grind (arith, words_parentheses)
 
 words_again : (ws : List Word) → filter_map word_of (words_tokens ws) ≡ ws
 words_again [] = refl
 words_again (w ∷ []) = grind (arith, word_token)
 words_again (w ∷ v ∷ ws) = grind (arith, word_token, (words_again (v ∷ ws)))
 
-led_again : (ws vs : List Word) (ps : List Token)
-    → filter_map word_of ps ≡ vs → filter_map word_of (led ws ps) ≡ ws ++ vs
-led_again [] vs ps again = again
-led_again (w ∷ ws) vs ps again = grind (arith, word_token, (led_again ws vs ps again))
-
 pub line_words_again : (r : ResourceRecord) → filter_map word_of (line_tokens r) ≡ line_words r
-line_words_again r = grind (arith, led_again, words_again)
+line_words_again r = grind (arith, words_again)

@@ -7,9 +7,6 @@ use Rattle.dns_spec.proofs.Messages.Places.{number_of-bytes}
 pub two_octets : (a b : ℕ) → a < 256 → b < 256 → octets16 (a * 256 + b) ≡ a ∷ b ∷ []
 two_octets a b ha hb = ap₂ (λ x y. x ∷ y ∷ []) (omega arith) (omega arith)
 
-pub two_again : (n : ℕ) (x : Octets) → n < 2 ^ 16 → field16 (octets16 n ++ x) 0 ≡ n
-two_again n x h = number_of-bytes 2 n ∙ mod-eq_of_lt h
-
 pub front_is : (x : Octets)
     → All (λ o. o < 256) x → 2 ≤ length x → octets16 (field16 x 0) ++ drop 2 x ≡ x
 front_is x h h1 = grind (arith, common_steps, recursion_from_All, two_octets)
@@ -112,7 +109,7 @@ rest_cut (suc k) x low h = go (first_frame x) refl h (rest_cut k)
 -- frames of messages are read as these messages
 first_again : (m z : Octets) → length m < 2 ^ 16 → first_frame (frame m ++ z) ≡ Some (m, z)
 unfolding first_frame
-first_again m z h = grind (arith, two_again, le-leb, length-append, ap₂, take_at, drop_at)
+first_again m z h = grind (arith, le-leb, length-append, ap₂, take_at, drop_at)
 
 pub frames_again : (k : ℕ) (ms : List Octets) (x : Octets) → All (λ m. length m < 2 ^ 16) ms
     → frames (length ms + k) (flat_map frame ms ++ x) ≡ ms ++ frames k x

@@ -1,9 +1,7 @@
--- A small file and its records; and the text of a whole zone, with the faults of texts that differ
--- from it in one line.
-use Rattle.dns_spec.proofs.Common.{ℕ, List, [], ◌∷◌, ◌++◌, refl, codes, digits, Octets, DomainName, wire, labels_from, cut, type_a, type_ns, type_soa, type_txt, type_aaaa, hex_octets, ipv6_groups, ResourceRecord, run_length, read_entry, entries_from, records, fault_at, Means, bad_ttl, bad_type, no_ttl}
+-- What files mean: the records of a small file, and those of the small zone.
+use Rattle.dns_spec.proofs.Common.{DomainName, List, Means, Octets, ResourceRecord, [], codes, cut, digits, entries_from, hex_octets, ipv6_groups, labels_from, read_entry, records, refl, run_length, type_a, type_aaaa, type_ns, type_soa, type_txt, wire, ℕ, ◌++◌, ◌∷◌}
 use Rattle.dns_spec.proofs.WorkedExamples.Zones.{hex, example, under, net_192, soa_of, strings_data, small_records}
-use Rattle.dns_spec.proofs.WorkedExamples.Readings.{are_found}
-use Rattle.dns_spec.proofs.WorkedExamples.FaultReadings.{Mean, text_in, reads}
+use Rattle.dns_spec.proofs.WorkedExamples.Readings.{records_in, found_is}
 use mathlib.Core.Bool.{xor}
 
 abbrev pub small_file : Octets
@@ -39,42 +37,22 @@ six_records =
 
 pub small_file_means : Means example small_file (records six_records)
 unfolding run_length xor digits cut labels_from read_entry entries_from ipv6_groups hex_octets
-small_file_means = reads small_file (records six_records) refl
+small_file_means = found_is (records_in small_file) six_records refl
 
--- the lines of the small zone
-abbrev soa_and_server : Octets
-soa_and_server = codes "@ SOA ns hostmaster 1 7200 900 1209600 300\n" ++ codes "@ NS ns\n"
+-- the text of the small zone
+abbrev zone_file : Octets
+zone_file =
+    codes "$TTL 3600\n"
+    ++ codes "@ SOA ns hostmaster 1 7200 900 1209600 300\n"
+    ++ codes "@ NS ns\n"
+    ++ codes "ns A 192.0.2.1\n"
+    ++ codes "www A 192.0.2.10\n"
+    ++ codes "alias CNAME www\n"
+    ++ codes "*.w TXT \"any\"\n"
+    ++ codes "a.b.ent A 192.0.2.11\n"
+    ++ codes "sub NS ns.sub\n"
+    ++ codes "ns.sub A 192.0.2.53\n"
 
-abbrev first_three : Octets
-first_three = codes "$TTL 3600\n" ++ soa_and_server
-
-abbrev fourth : Octets
-fourth = codes "ns A 192.0.2.1\n"
-
-abbrev fifth_and_sixth : Octets
-fifth_and_sixth = codes "www A 192.0.2.10\n" ++ codes "alias CNAME www\n"
-
-abbrev seventh : Octets
-seventh = codes "*.w TXT \"any\"\n"
-
-abbrev last_three : Octets
-last_three =
-    codes "a.b.ent A 192.0.2.11\n" ++ codes "sub NS ns.sub\n" ++ codes "ns.sub A 192.0.2.53\n"
-
-zone_rows : Mean (
-    (first_three ++ fourth ++ fifth_and_sixth ++ seventh ++ last_three, records small_records)
-    -- a TTL with a unit
-    ∷ (
-      first_three ++ codes "ns 1h A 192.0.2.1\n" ++ fifth_and_sixth ++ seventh ++ last_three,
-      fault_at bad_ttl 4,
-    )
-    -- a word that names no type
-    ∷ (
-      first_three ++ fourth ++ fifth_and_sixth ++ codes "*.w TEXT \"any\"\n" ++ last_three,
-      fault_at bad_type 7,
-    )
-    -- without the line that states a TTL
-    ∷ (soa_and_server ++ fourth ++ fifth_and_sixth ++ seventh ++ last_three, fault_at no_ttl 1)
-    ∷ [])
+zone_file_means : Means example zone_file (records small_records)
 unfolding run_length xor digits cut labels_from read_entry entries_from
-zone_rows = are_found _ text_in _ refl
+zone_file_means = found_is (records_in zone_file) small_records refl

@@ -1,8 +1,8 @@
 -- What is printed for inputs, octet by octet, computed from the definitions.
-use Rattle.dns_spec.proofs.Common.{◌≡◌, ℕ, ◌≤◌, true, false, [], ◌∷◌, ◌++◌, codes, decimal, refl, lit<, lit≤, inl, inr, digits, octet_text, Octets, labels_from, cut, hex_octets, data_text, DnsMessage, run, runs_before, name_at, fields_at, several, message_at, Option, None, Some, lines, ended_lines, line_message, line_answers, are_messages, section_line, message_text, PrintsMessage, PrintsInput}
+use Rattle.dns_spec.proofs.Common.{DnsMessage, None, Octets, Option, PrintsInput, PrintsMessage, Some, [], are_messages, codes, cut, data_text, decimal, digits, ended_lines, false, fields_at, hex_octets, inl, inr, labels_from, line_answers, line_message, lines, lit<, lit≤, message_at, message_text, name_at, octet_text, refl, run, runs_before, several, true, ℕ, ◌++◌, ◌∷◌, ◌≡◌, ◌≤◌}
 use Rattle.dns_spec.specs.MessageFaults.{MessageFault, stopped}
-use Rattle.dns_spec.proofs.WorkedExamples.Zones.{hex, under, net_192}
-use Rattle.dns_spec.proofs.WorkedExamples.MessageRows.{address_digits, address_message, error_digits, error_message}
+use Rattle.dns_spec.proofs.WorkedExamples.Zones.{hex}
+use Rattle.dns_spec.proofs.WorkedExamples.MessageRows.{address_digits, address_message}
 
 -- what is printed for a message, and for an input without one
 abbrev Prints : Octets → Octets → Type 0
@@ -32,46 +32,27 @@ printed_rows :
     Prints (address_digits ++ codes "\n\nzz")
     (codes "header 1234 8400 1 1 0 0\n" ++ codes "question www.example. IN A\n"
     ++ codes "answer www.example. 3600 IN A 192.0.2.10\n")
-    -- a name error, with the SOA
-    × Prints error_digits
-    (codes "header 1234 8403 1 0 1 0\n" ++ codes "question nope.example. IN A\n"
-    ++ codes "authority example. 300 IN SOA ns.example. hostmaster.example. 1 7200 900 1209600"
-    ++ codes " 300\n")
-    -- an additional record of another class, with data that would be an address in class IN
-    × (section_line (codes "additional")
-    (record { owner = under (codes "a"); rtype = 1; rclass = 3; ttl = 0; rdata = net_192 10 })
-    ≡ codes "additional a.example. 0 CLASS3 A \\# 4 c000020a\n")
     -- a pointer to itself: fault 3
     × Refuses pointer_digits (codes "fault 3\n")
-    -- an input without lines is read as no octets, fewer than a header
-    × Refuses [] (codes "fault 1\n")
     -- a line that is not a message
     × Refuses (codes "zz\n00") (codes "bad hex\n")
 unfolding run runs_before name_at fields_at several message_at lines hex_octets octet_text
     data_text labels_from cut digits
 printed_rows = (
   prints_message (line_message address_digits) (hex address_digits) address_message refl refl,
-  prints_message (line_message error_digits) (hex error_digits) error_message refl refl,
-  refl,
   prints_fault (line_message pointer_digits) (hex pointer_digits) 3 refl refl
       (stopped 29 3 refl (lit< tt)) (lit≤ tt) (lit≤ tt),
-  prints_fault (line_message []) [] 1 refl refl refl (lit≤ tt) (lit≤ tt),
   refl,
 )
 
 -- the lines of an input, and what is written for them
 line_rows :
-    -- octets after the last LF are a line
-    (lines [] ≡ [])
-    × (lines (codes "ab\n\n") ≡ codes "ab" ∷ [] ∷ [])
-    × (lines (codes "ab\n\nc") ≡ codes "ab" ∷ [] ∷ codes "c" ∷ [])
+    (lines (codes "ab\n\nc") ≡ codes "ab" ∷ [] ∷ codes "c" ∷ [])
     × (ended_lines (codes "ab\n\nc") ≡ codes "ab" ∷ [] ∷ [])
     -- digits may be in either case, but their number is even; other octets, such as CR, are not
     -- allowed
     × (line_message (codes "0aFf") ≡ Some (10 ∷ 255 ∷ []))
-    × (line_message [] ≡ Some [])
     × (line_message (codes "0aF") ≡ None)
-    × (line_message (codes "0aF\r") ≡ None)
 unfolding lines hex_octets
 line_rows = search []
 

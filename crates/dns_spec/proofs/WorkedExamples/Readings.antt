@@ -1,8 +1,9 @@
--- Functions that compute what a text or a part of a text means, together with the proof, or give
--- `None` if they can't decide.
-use Rattle.dns_spec.proofs.Common.{◌≡◌, ◌≢◌, ℕ, zero, suc, ◌^◌, ◌⊎◌, inl, inr, Bool, true, false, ◌&&◌, ◌||◌, not, ◌==◌, List, [], ◌∷◌, ◌++◌, Option, Some, None, refl, sym, ◌∙◌, ap, subst, codes, decimal, length, map, take, drop, nat_lt, nat_le, arith, MatchOption, MatchBool, bytes_high_first, list_all, slice_split, flat_map, option_map, digits_value, and_parts, and_from, false≢true, eqb-true, eqb-false, ltb-true, leb-true, le-leb, decimal_is_IsNumeral, none-some, same_Some, Octets, DomainName, wire, folded, is_name, octets_equal, SpellsOctet, TextSpells, SpellsName, escape_front, text_in_lower_case, type_by_mnemonic, numbered_type, NamesType, valid, lower_case, ResourceRecord, Entry, FileFault, directive_words, ipv4_text, ipv6_octets, Word, Field, number, ipv4, ipv6, domain, string, strings, anything, SaysString, SpellsString, SaysField, may_be_quoted, SaysFields, word_fields_of, SaysTyped, hex_octets, is_hex_word, SaysUnknown, is_unknown_mark, SaysAsSpelled, Says, EntryMeaning, faulty, gives, Nothing, kind_of, directive_word, OriginIs, NameIs, most_ttl, TtlSays, ttl_in_force, TtlIs, is_zone_type, TypeIs, DataIs, IsRecord, Fields, IsNoTtl, DirectiveSays}
+-- Functions that compute the records that a text means, or what a part of it means, together with
+-- the proof, or give `None` if they find none.
+use Rattle.dns_spec.proofs.Common.{Bool, DataIs, DirectiveSays, DomainName, EntriesGive, Entry, EntryKind, Field, Fields, FileFault, IsNoTtl, IsRecord, KindGives, List, MatchBool, MatchOption, Means, NameIs, NamesType, None, Nothing, Octets, Option, OriginIs, OwnerBefore, PlacedEntry, RecordGives, ResourceRecord, Says, SaysAsSpelled, SaysField, SaysFields, SaysString, SaysTyped, SaysUnknown, Some, SpellsName, SpellsOctet, SpellsString, TextSpells, TtlIs, TtlSays, TypeIs, Word, [], and_parts, anything, ap, are_too_many, bad_owner, bytes_high_first, codes, decimal, digits_value, directive, directive_word, domain, drop, eqb-false, eqb-true, escape_front, false, false≢true, fields, flat_map, folded, gives, hex_octets, inl, inr, ipv4, ipv4_text, ipv6, ipv6_octets, is_hex_word, is_name, is_none, is_other_class, is_unknown_mark, is_zone_type, kind_of, leb-true, length, lexical_fault, list_all, lower_case, ltb-true, map, may_be_quoted, most_ttl, nat_le, nat_lt, no_owner, no_words, none-some, not, number, numbered_type, octets_equal, option_map, owned, owner_word, placed_entries, records, refl, same_Some, slice_split, string, strings, subst, suc, sym, text_in_lower_case, true, ttl_in_force, type_by_mnemonic, unowned, valid, wire, word_fields_of, zero, ℕ, ◌&&◌, ◌++◌, ◌==◌, ◌^◌, ◌||◌, ◌∙◌, ◌∷◌, ◌≡◌, ◌≢◌, ◌⊎◌}
 use Rattle.dns_spec.proofs.DomainNames.NameLaws.{octets_equal-decides}
 use Rattle.dns_spec.proofs.NameTexts.Escapes.{escape_spells}
+use Rattle.dns_spec.proofs.ZoneTexts.FirstFault.{first_fault}
 use Rattle.dns_spec.proofs.WorkedExamples.Zones.{example}
 
 -- a value for which P holds, if one is found
@@ -30,18 +31,14 @@ abbrev pub holds : (b : Bool) → Option (b ≡ true)
 holds true = Some refl
 holds false = None
 
-abbrev pub fails : (b : Bool) → Option (b ≡ false)
+abbrev fails : (b : Bool) → Option (b ≡ true → ⊥)
 fails true = None
-fails false = Some refl
+fails false = Some (λ e. false≢true e)
 
--- the value of an option with its proof, and the proof that the option has no value
+-- the value of an option with its proof
 abbrev pub there : {A : Type 0} (o : Option A) → Found (λ (v : A). o ≡ Some v)
 there None = None
 there (Some v) = Some (v, refl)
-
-abbrev missing : {A : Type 0} (o : Option A) → Option (o ≡ None)
-missing None = Some refl
-missing (Some v) = None
 
 -- a proof of one of two cases, by a test
 abbrev pub by_test : {P Q : Type 0} (b : Bool) → (b ≡ true → P) → (b ≡ false → Q) → P ⊎ Q
@@ -122,18 +119,10 @@ ttl_said w n h =
     let both = and_parts (not w.is_quoted) _ parts.0 in
     (both.0, (octets_equal-decides w.raw (decimal n)).0 both.1, leb-true n most_ttl parts.1)
 
-pub ttl_tested : (w : Word) (n : ℕ) → TtlSays w n → says_ttl w (digits_value 10 w.raw) ≡ true
-ttl_tested w n (bare, is, few) =
-    let value = ap (digits_value 10) is ∙ (decimal_is_IsNumeral n (omega (arith, few))).1 in
-    subst (λ k. says_ttl w k ≡ true) (sym value)
-    (and_from _ _ (and_from _ _ bare ((octets_equal-decides w.raw (decimal n)).1 is))
-    (le-leb n most_ttl few))
-
-abbrev pub ttl_of : (w : Word) → ((n : ℕ) × TtlSays w n) ⊎ Nothing (TtlSays w)
-ttl_of w =
+abbrev ttl_in : (w : Word) → Found (TtlSays w)
+ttl_in w =
     let n = digits_value 10 w.raw in
-    by_test (says_ttl w n) (λ e. (n, ttl_said w n e))
-    (λ e k h. false≢true (sym e ∙ ttl_tested w k h))
+    and_then (holds (says_ttl w n)) (λ e. Some (n, ttl_said w n e))
 
 -- the string that a text spells
 abbrev pub string_in : ℕ → (text : Octets) → Found (SpellsString text)
@@ -214,10 +203,9 @@ name_after o earlier w = and_then (holds (not w.is_quoted)) (λ bare.
     (λ n. Some (n.0, (bare, (m.0, m.1, n.1))))))
 
 abbrev ttl_after : (earlier : List Entry) (stated : Option Word) → Found (TtlIs earlier stated)
-ttl_after earlier stated = matched (ttl_in_force earlier stated) None
-    (λ w. elim (ttl_of w) [ inl n ↦ Some n | inr none ↦ None ])
+ttl_after earlier stated = matched (ttl_in_force earlier stated) None ttl_in
 
--- the type that a word names, or the proof that it names none
+-- the type that a word names
 abbrev names_type : (raw : Octets) → Found (NamesType raw)
 names_type raw = elim (there (type_by_mnemonic raw)) [
   | Some t ↦ Some (t.0, inl t.1)
@@ -233,114 +221,81 @@ type_in [] = None
 type_in (w ∷ ws) = and_then (holds (not w.is_quoted)) (λ bare. and_then (names_type w.raw)
     (λ t. and_then (holds (is_zone_type t.0)) (λ h. Some (t.0, (bare, t.1, h)))))
 
-pub no_type_named : (raw : Octets) (t : ℕ) → type_by_mnemonic raw ≡ None
-    → octets_equal (take 4 (text_in_lower_case raw)) (codes "type") ≡ false → NamesType raw t → ⊥
-no_type_named raw t none front (inl e) = none-some t (sym none ∙ e)
-no_type_named raw t none front (inr (small, e)) =
-    let is = octets_equal-decides (take 4 (text_in_lower_case raw)) (codes "type") in
-    false≢true (sym front ∙ is.1 (ap (take 4) e))
-
-abbrev no_type_in : (ws : List Word) → Option (Nothing (TypeIs ws))
-no_type_in [] = Some (λ t h. h)
-no_type_in (w ∷ ws) = elim (by_test w.is_quoted (λ e. e) (λ e. e)) [
-  | inl quoted ↦ Some (λ t h. false≢true (sym (ap not quoted) ∙ h.0))
-  | inr bare ↦ and_then (missing (type_by_mnemonic w.raw)) (λ none.
-      and_then (fails (octets_equal (take 4 (text_in_lower_case w.raw)) (codes "type"))) (λ front.
-      Some (λ t h. no_type_named w.raw t none front h.1)))
-]
-
 abbrev pub data_after : (o : DomainName) (earlier : List Entry) (ws : List Word)
     → Found (DataIs o earlier ws)
 data_after o earlier ws = and_then (type_in ws) (λ t. and_then (origin_after o earlier)
     (λ m. and_then (data_in t.0 (drop 1 ws) m.0) (λ d. Some (d.0, (t.0, t.1, (m.0, m.1, d.1))))))
 
--- if decided: A or its negation; and a value for which P holds, or the proof that there is none
-abbrev pub Told : Type 0 → Type 0
-Told A = Option (A ⊎ (A → ⊥))
-
-abbrev pub Known : {A : Type 0} → (A → Type 0) → Type 0
-Known {A} P = Option (((v : A) × P v) ⊎ Nothing P)
-
-abbrev pub tested : (b : Bool) → Told (b ≡ true)
-tested b = Some (by_test b (λ e. e) (λ e h. false≢true (sym e ∙ h)))
-
 -- since a value was found, `Nothing P` is false
-abbrev pub some : {A : Type 0} {P : A → Type 0} → (v : A) × P v → Nothing P → ⊥
+abbrev some : {A : Type 0} {P : A → Type 0} → (v : A) × P v → Nothing P → ⊥
 some f none = none f.0 f.1
 
-abbrev pub unless : {C : Type 0} {Rest : EntryMeaning → Type 0} (fault : FileFault)
-    → Told C → Found Rest → Found (λ given. (C × (given ≡ faulty fault)) ⊎ ((C → ⊥) × Rest given))
-unless fault None rest = None
-unless fault (Some (inl c)) rest = Some (faulty fault, inl (c, refl))
-unless fault (Some (inr fails)) rest = and_then rest (λ g. Some (g.0, inr (fails, g.1)))
+abbrev ttl_stands : (stated : Option Word) → Option (IsNoTtl stated → ⊥)
+ttl_stands None = Some (λ h. h)
+ttl_stands (Some w) = and_then (ttl_in w) (λ n. Some (some n))
 
-abbrev pub no_ttl_stated : (stated : Option Word) → Told (IsNoTtl stated)
-no_ttl_stated None = Some (inr (λ h. h))
-no_ttl_stated (Some w) = elim (ttl_of w) [
-  | inl n ↦ Some (inr (some n))
-  | inr none ↦ Some (inl none)
-]
+-- what stands after a fault that there is not
+abbrev unless : {C D E : Type 0} → Option (C → ⊥) → Option D → Option ((C × E) ⊎ ((C → ⊥) × D))
+unless stands later = and_then stands (λ not_c. and_then later (λ d. Some (inr (not_c, d))))
 
-abbrev pub no_type_told : (ws : List Word) → Told (Nothing (TypeIs ws))
-no_type_told ws = elim (type_in ws) [
-  | Some t ↦ Some (inr (some t))
-  | None ↦ and_then (no_type_in ws) (λ none. Some (inl none))
-]
-
-abbrev pub whole_record : (o : DomainName) (earlier : List Entry) (Owner : DomainName → Type 0)
-    (f : Fields) → (n : DomainName) × Owner n → (d : Octets) × DataIs o earlier f.others d → Found
-    (λ given. (r : ResourceRecord) × IsRecord o earlier Owner f r × (given ≡ gives (r ∷ [])))
-whole_record o earlier Owner f n d =
-    and_then (ttl_after earlier f.ttl) (λ k. and_then (type_in f.others) (λ t.
+-- the records that an entry gives
+abbrev record_given : (o : DomainName) (earlier : List Entry) (fault : FileFault)
+    (Owner : DomainName → Type 0) (f : Fields) → Found Owner
+    → Found (λ rs. RecordGives o earlier fault Owner f (gives rs))
+record_given o earlier fault Owner f owner =
+    and_then owner (λ n. and_then (ttl_after earlier f.ttl) (λ k. and_then (type_in f.others)
+    (λ t. and_then (data_after o earlier f.others) (λ d.
     let r : ResourceRecord = record { owner = folded n.0; ttl = k.0; rtype = t.0; rdata = d.0 } in
     let is : IsRecord o earlier Owner f r =
     record { owner = (n.0, n.1, refl); ttl = k.1; rtype = t.1; rdata = d.1 } in
-    Some (gives (r ∷ []), (r, is, refl))))
+    and_then (unless (Some (some n)) (unless (ttl_stands f.ttl)
+    (unless (fails (is_other_class f.class)) (unless (Some (some t))
+    (unless (fails (is_none (ttl_in_force earlier f.ttl))) (unless (Some (some d))
+    (unless (fails (are_too_many earlier)) (Some (r, is, refl))))))))) (λ g. Some (r ∷ [], g))))))
 
--- what a directive means
-abbrev pub directive_in : {A : Type 0} (P : A → Word → Type 0)
-    → ((w : Word) → Known (λ v. P v w)) → (ws : List Word) → Found (DirectiveSays P ws)
-directive_in P one [] = Some (faulty directive_words, inl (λ v h. h, refl))
-directive_in P one (w ∷ v ∷ ws) = Some (faulty directive_words, inl (λ v h. h, refl))
-directive_in P one (w ∷ []) = elim (one w) [
-  | None ↦ None
-  | Some found ↦ elim found [
-    | inl v ↦ Some (gives [], inr (some v, refl))
-    | inr none ↦ Some (faulty directive_words, inl (none, refl))
-  ]
-]
+abbrev directive_said : {A : Type 0} (P : A → Word → Type 0)
+    → ((w : Word) → Found (λ v. P v w)) → (ws : List Word) → Option (DirectiveSays P ws (gives []))
+directive_said P one [] = None
+directive_said P one (w ∷ v ∷ ws) = None
+directive_said P one (w ∷ []) = and_then (one w) (λ v. Some (inr (some v, refl)))
+
+abbrev whichever : {P Q : Type 0} (b : Bool) → Option P → Option Q → Option (MatchBool b P Q)
+whichever true one other = one
+whichever false one other = other
+
+abbrev owner_before : (o : DomainName) (earlier : List Entry) → Found (OwnerBefore o earlier)
+owner_before o [] = None
+owner_before o (e ∷ earlier) =
+    matched (owner_word (kind_of e)) (owner_before o earlier) (λ w. name_after o earlier w)
+
+abbrev kind_given : (o : DomainName) (earlier : List Entry) (s : EntryKind)
+    → Found (λ rs. KindGives o earlier s (gives rs))
+kind_given o earlier no_words = Some ([], refl)
+kind_given o earlier (directive name ws) =
+    and_then (whichever (octets_equal name (codes "$origin"))
+    (directive_said (λ n w. NameIs o earlier w n) (name_after o earlier) ws)
+    (whichever (octets_equal name (codes "$ttl"))
+    (directive_said (λ n w. TtlSays w n) ttl_in ws) None)) (λ g. Some ([], g))
+kind_given o earlier (owned w ws) =
+    record_given o earlier bad_owner (NameIs o earlier w) (fields ws) (name_after o earlier w)
+kind_given o earlier (unowned ws) =
+    record_given o earlier no_owner (OwnerBefore o earlier) (fields ws) (owner_before o earlier)
+
+abbrev entries_given : (o : DomainName) (earlier : List Entry) (es : List PlacedEntry)
+    → Found (EntriesGive o earlier es [])
+entries_given o earlier [] = Some ([], (refl, refl))
+entries_given o earlier (e ∷ es) = and_then (matched (lexical_fault e.entry)
+    (kind_given o earlier (kind_of e.entry)) (λ f. None))
+    (λ own. and_then (entries_given o (e.entry ∷ earlier) es)
+    (λ rs. Some (own.0 ++ rs.0, inr (own.0, inl own.1, (rs.0, refl, rs.1)))))
+
+-- the records that a text without a fault means, as the file of the zone `example.`
+abbrev pub records_in : (text : Octets) → Found (λ rs. Means example text (records rs))
+records_in text = and_then (entries_given example [] (placed_entries text))
+    (λ rs. Some (rs.0, first_fault example text [] rs.0 rs.1))
 
 -- the value found is v
 pub found_is : {A : Type 0} {P : A → Type 0} (o : Found P) (v : A)
     → option_map (λ (f : (w : A) × P w). f.0) o ≡ Some v → P v
 found_is None v e = absurd (none-some v e)
 found_is {A} {P} (Some f) v e = subst P (same_Some f.0 v e) f.1
-
--- P holds for the two parts of each row
-pub Rows : {A B : Type 0} → (A → B → Type 0) → List (A × B) → Type 0
-Rows P [] = Unit {0}
-Rows P (r ∷ rows) = P r.0 r.1 × Rows P rows
-
--- the value that is found
-abbrev pub value_of : {A : Type 0} {P : A → Type 0} → Found P → Option A
-value_of {A} {P} o = option_map (λ (f : (v : A) × P v). f.0) o
-
--- if `read` finds the second part of each row from its first part, P holds for all rows
-pub are_found : {A B : Type 0} (P : A → B → Type 0) (read : (a : A) → Found (P a))
-    (rows : List (A × B)) → map (λ (r : A × B). value_of (read r.0)) rows
-    ≡ map (λ (r : A × B). Some r.1) rows → Rows P rows
-unfolding Rows
-are_found P read [] e = tt
-are_found {A} {B} P read (r ∷ rows) e =
-    (found_is (read r.0) r.1 (head e), are_found P read rows (ap (drop 1) e))
-  where
-    head : value_of (read r.0) ∷ map (λ (s : A × B). value_of (read s.0)) rows
-        ≡ Some r.1 ∷ map (λ (s : A × B). Some s.1) rows → value_of (read r.0) ≡ Some r.1
-    head e = cc
-
--- the words spell this data of the type, relative to `example.`
-abbrev pub SaysOf : ℕ × List Word → Octets → Type 0
-SaysOf said d = Says said.0 said.1 example d
-
-abbrev pub said_in : (said : ℕ × List Word) → Found (SaysOf said)
-said_in said = data_in said.0 said.1 example

@@ -1,7 +1,7 @@
 -- The reports about zones and files, octet by octet.
-use Rattle.dns_spec.proofs.Common.{◌≡◌, ℕ, Bool, true, false, List, [], ◌∷◌, ◌++◌, codes, refl, lit<, lit≤, ◌<◌, All, Contains, digits, octet_text, Octets, DomainName, wire, labels_from, type_a, type_ns, type_soa, type_txt, cut, hex_octets, data_text, ResourceRecord, HoldSameRecords, zone_of, faults, bad_ttl, bad_type, records, fault_at, zone_text, IsReadRecord, record_line, Options, Report, Reports, report_of_meaning, zone_report, All-from_recursion}
+use Rattle.dns_spec.proofs.Common.{All, All-from_recursion, Bool, Contains, HoldSameRecords, IsReadRecord, List, Octets, Options, Report, Reports, ResourceRecord, [], bad_ttl, codes, cut, data_text, digits, false, fault_at, faults, hex_octets, labels_from, lit<, lit≤, octet_text, record_line, records, refl, report_of_meaning, true, type_a, type_txt, zone_of, zone_report, zone_text, ℕ, ◌++◌, ◌<◌, ◌∷◌, ◌≡◌}
 use Rattle.dns_spec.proofs.WorkedExamples.FileRows.{small_file, six_records, small_file_means}
-use Rattle.dns_spec.proofs.WorkedExamples.Zones.{dotted, example, entry, in_zone, alias, server, soa_of, strings_data, net_192, small_records, small_zone_with}
+use Rattle.dns_spec.proofs.WorkedExamples.Zones.{dotted, example, entry, in_zone, alias, strings_data, net_192, small_records, small_zone_with}
 
 abbrev options : Bool → Bool → Options
 options quiet printing = record { is_quiet = quiet; is_printing = printing }
@@ -21,24 +21,6 @@ quiet = options true false
 
 abbrev printing : Options
 printing = options false true
-
-abbrev quiet_printing : Options
-quiet_printing = options true true
-
--- a zone at the root, and one with a dot in the label of its origin
-abbrev root_records : List ResourceRecord
-root_records =
-    entry [] type_soa (soa_of (dotted (codes "ns")) (dotted (codes "h")) 7 2 3 4 5)
-    ∷ entry [] type_ns (wire (dotted (codes "ns")))
-    ∷ entry (dotted (codes "ns")) type_a (net_192 1) ∷ []
-
-abbrev dotted_label : DomainName
-dotted_label = codes "a.b" ∷ []
-
-abbrev dotted_records : List ResourceRecord
-dotted_records =
-    entry dotted_label type_soa (soa_of [] [] 8 2 3 4 5)
-    ∷ entry dotted_label type_ns (wire (dotted (codes "ns"))) ∷ []
 
 -- an address record with a TTL, and two lists of such records with two TTLs
 abbrev address_for : ℕ → ResourceRecord
@@ -70,35 +52,8 @@ report_rows :
     × (zone_report no_options (small_zone_with (alias (codes "www") (codes "ns")
     ∷ in_zone (codes "x.sub") type_txt (strings_data (codes "q" ∷ [])) ∷ []))
     ≡ failed (codes "x.sub.example. Z12\nwww.example. Z06\n"))
-    × (zone_report quiet (small_zone_with (alias (codes "www") (codes "ns") ∷ [])) ≡ failed [])
-    -- an empty file
-    × (report_of_meaning no_options example (records [])
-    ≡ failed (codes "example. Z01\nexample. Z04\n"))
-    -- an empty file for the root; its faults are reported although printing was asked for
-    × (report_of_meaning printing [] (records []) ≡ failed (codes ". Z01\n. Z04\n"))
     -- a fault of the file is reported although printing was asked for
     × (report_of_meaning printing example (fault_at bad_ttl 4) ≡ failed (codes "line 4: R09\n"))
-    -- with only `--quiet`, a fault of the file is not reported either
-    × (report_of_meaning quiet example (fault_at bad_ttl 4) ≡ failed [])
-    -- a fault with a code above 9
-    × (report_of_meaning no_options example (fault_at bad_type 7) ≡ failed (codes "line 7: R11\n"))
-    -- with `--print` and `--quiet`, faults are reported
-    × (zone_report quiet_printing (small_zone_with (server example (codes "alias") ∷ []))
-    ≡ failed (codes "example. Z09\nexample. Z10\n"))
-    -- a zone at the root
-    × (report_of_meaning no_options [] (records root_records)
-    ≡ passed (codes "zone ./IN: loaded serial 7\nOK\n"))
-    -- an origin with a dot in its label
-    × (report_of_meaning no_options dotted_label (records dotted_records)
-    ≡ passed (codes "zone a\\.b/IN: loaded serial 8\nOK\n"))
-    -- a record that appears twice is printed once; data comes before longer data that begins with
-    -- it; and `--quiet` omits nothing if `--print` is given too
-    × (zone_report quiet_printing (zone_of [] (root_records
-    ++ entry (dotted (codes "ns")) type_a (net_192 1) ∷ entry [] 65280 (0 ∷ [])
-    ∷ entry [] 65280 [] ∷ []))
-    ≡ passed (codes ". 3600 IN SOA ns. h. 7 2 3 4 5\n" ++ codes ". 3600 IN NS ns.\n"
-    ++ codes ". 3600 IN TYPE65280 \\# 0\n" ++ codes ". 3600 IN TYPE65280 \\# 1 00\n"
-    ++ codes "ns. 3600 IN A 192.0.2.1\n"))
     -- records that differ only in their TTL: the lower TTL comes first
     × (zone_text (zone_of [] twice_for_7)
     ≡ codes "ns. 5 IN A 192.0.2.1\nns. 7 IN A 192.0.2.1\n")

@@ -1,8 +1,8 @@
 -- Replies to datagrams and to streams, computed from the definitions: some whole, octet by octet,
 -- others by their header, length and a distinctive part; and the sizes of replies.
-use Rattle.dns_spec.proofs.Common.{◌≡◌, ℕ, zero, suc, ◌+◌, ◌*◌, List, [], ◌∷◌, ◌++◌, length, take, drop, replicate, codes, Option, None, Some, option_map, Octets, wire, labels_from, cut, type_txt, type_cname, type_srv, ResourceRecord, ZoneContents, run, runs_before, name_at, answer, Item, Placed, octets_by, data_by, record_laid, header_octets, records_octets, records_by, layout, size, chain_from, chain, outcome_at, outcome, extra, items, required_items, keep_longest, reply_with, reply, octets_of, decide, question_at, query_read, Header, MessageQuestion, frame, first_frame, frames, after_frames, replies}
+use Rattle.dns_spec.proofs.Common.{Header, Item, List, MessageQuestion, None, Octets, Option, Placed, ResourceRecord, Some, ZoneContents, [], after_frames, answer, chain, chain_from, codes, cut, data_by, decide, digits, drop, extra, first_frame, frame, frames, header_octets, items, keep_longest, labels_from, layout, length, name_at, octets_by, octets_of, option_map, outcome, outcome_at, query_read, question_at, record_laid, records_by, records_octets, refl, replicate, replies, reply, reply_with, required_items, run, runs_before, size, take, type_cname, type_srv, wire, ℕ, ◌++◌, ◌+◌, ◌∷◌, ◌≡◌}
 use mathlib.Core.Path.{refl}
-use Rattle.dns_spec.proofs.WorkedExamples.Zones.{hex, dotted, under, entry, in_zone, addresses, query, asks, www_query, small_zone, small_zone_with, large_zone, deep_zone, deep_name}
+use Rattle.dns_spec.proofs.WorkedExamples.Zones.{hex, dotted, under, entry, in_zone, addresses, query, www_query, small_zone, large_zone}
 
 -- the octets of a reply within a limit
 unfoldable within : ℕ → ZoneContents → Octets → Option Octets
@@ -27,11 +27,6 @@ octets digits = Some (hex digits)
 
 abbrev part : Octets → ℕ → Octets → Option (Octets × ℕ × Octets)
 part head size digits = Some (hex head, size, hex digits)
-
--- k TXT records at `x`, each with a different string of 255 octets
-abbrev strings_at_x : ℕ → List ResourceRecord
-strings_at_x zero = []
-strings_at_x (suc k) = in_zone (codes "x") type_txt (255 ∷ k ∷ replicate 254 97) ∷ strings_at_x k
 
 -- the reply to a query for the address of `www`
 abbrev www_reply : Octets
@@ -67,9 +62,6 @@ reply_rows :
     × (udp small_zone (query (codes "alias.example") 1)
     ≡ octets (codes "123484000001000200000000 05616c696173076578616d706c650000010001"
     ++ to_www ++ codes "c02b0001000100000e100004c000020a"))
-    -- and the alias itself, if all types are asked for
-    × (udp small_zone (query (codes "alias.example") 255)
-    ≡ octets (codes "123484000001000100000000 05616c696173076578616d706c650000ff0001" ++ to_www))
     -- the question is returned as asked, with its capitals
     × (udp small_zone (query (codes "WWW.Example") 1)
     ≡ octets (codes "123484000001000100000000 03575757074578616d706c650000010001"
@@ -77,35 +69,17 @@ reply_rows :
     -- the servers of the zone with their addresses
     × (udp small_zone (query (codes "example") 2)
     ≡ octets (codes "123484000001000100000001 076578616d706c650000020001" ++ servers))
-    -- all types of the origin asked for: only the NS set
-    × (udp small_zone (query (codes "example") 255)
-    ≡ octets (codes "123484000001000100000001 076578616d706c650000ff0001" ++ servers))
     -- no reply to fewer octets than a header
     × (udp small_zone (take 11 www_query) ≡ None)
-    -- nor to a response
-    × (udp small_zone (hex (codes "12348000000100000000000003777777076578616d706c650000010001"))
-    ≡ None)
-    -- nor to an empty datagram
-    × (udp small_zone [] ≡ None)
     -- another opcode
     × (udp small_zone (hex (codes "12341000000100000000000003777777076578616d706c650000010001"))
     ≡ octets (codes "123490040000000000000000"))
-    -- an additional record in the query
-    × (udp small_zone (hex (codes "123400000001000000000001 03777777076578616d706c6500000100"
-    ++ codes "010000291000000000000000"))
-    ≡ octets (codes "123480010000000000000000"))
     -- a pointer in the question
     × (udp small_zone (hex (codes "123400000001000000000000c00c00010001"))
-    ≡ octets (codes "123480010000000000000000"))
-    -- an octet after the question
-    × (udp small_zone (hex (codes "12340000000100000000000003777777076578616d706c65000001000100"))
     ≡ octets (codes "123480010000000000000000"))
     -- a name of another zone
     × (udp small_zone (query (codes "www.other") 1)
     ≡ octets (codes "123480050001000000000000 03777777056f746865720000010001"))
-    -- another class
-    × (udp small_zone (hex (codes "12340000000100000000000003777777076578616d706c650000010003"))
-    ≡ octets (codes "123480050001000000000000 03777777076578616d706c650000010003"))
     -- a type that is not a type of records
     × (udp small_zone (query (codes "example") 252)
     ≡ octets (codes "123480040001000000000000 076578616d706c650000fc0001"))
@@ -116,60 +90,12 @@ reply_rows :
     × (udp large_zone (query (codes "r1.example") 1)
     ≡ octets (codes "123484000001000200000000 027231076578616d706c650000010001"
     ++ codes "c00c0005000100000e100005027232c00f c0280005000100000e100002c00c"))
-    -- from here on, replies in outline; an empty non-terminal is not a name error
-    × (outline (udp small_zone (query (codes "b.ent.example") 1)) 31 12
-    ≡ part (codes "123484000001000000010000") 81 (codes "c012000600010000012c0026"))
-    -- the name directly above a wildcard is not a name error
-    × (outline (udp small_zone (query (codes "w.example") 16)) 27 12
-    ≡ part (codes "123484000001000000010000") 77 (codes "c00e000600010000012c0026"))
-    -- not even if all types are asked for
-    × (outline (udp small_zone (query (codes "w.example") 255)) 23 16
-    ≡ part (codes "123484000001000000010000") 77 (codes "00ff0001c00e000600010000012c0026"))
     -- a set that fits exactly
     × (outline (udp large_zone (query (codes "t.example") 16)) 27 14
     ≡ part (codes "123484000001000100000000") 512 (codes "c00c0010000100000e1001d9ff61"))
-    -- the set that was one octet too long, over TCP
-    × (outline (tcp large_zone (query (codes "u.example") 16)) 27 14
-    ≡ part (codes "123484000001000100000000") 513 (codes "c00c0010000100000e1001daff61"))
-    -- a chain of 17 aliases, of which 16 are followed
-    × (outline (udp large_zone (query (codes "c1.example") 1)) 28 17
-    ≡ part (codes "123484000001001100000000") 326 (codes "c00c0005000100000e100005026332c00f"))
-    -- 64 additional addresses do not fit and are left out, without TC
-    × (outline (udp large_zone (query (codes "m.example") 15)) 27 20
-    ≡ part (codes "123484000001000100000000") 47 (codes "c00c000f000100000e100008000a03626967c00e"))
-    -- over TCP, the 64 additional addresses are included
-    × (outline (tcp large_zone (query (codes "m.example") 15)) 47 16
-    ≡ part (codes "123484000001000100000040") 1071 (codes "c0290001000100000e100004c6336401"))
-    -- 64 addresses that were asked for do not fit, so TC is set
-    × (outline (udp large_zone (query (codes "big.example") 1)) 12 17
-    ≡ part (codes "123486000001000000000000") 29 (codes "03626967076578616d706c650000010001"))
-    -- over TCP, the 64 addresses that were asked for are included
-    × (outline (tcp large_zone (query (codes "big.example") 1)) 29 16
-    ≡ part (codes "123484000001004000000000") 1053 (codes "c00c0001000100000e100004c6336401"))
     -- a referral without room for its glue
     × (outline (udp large_zone (query (codes "h.cut.example") 1)) 31 18
     ≡ part (codes "123482000001000000010000") 49 (codes "c00e0002000100000e10000603626967c00e"))
-    -- the referral with its glue, over TCP
-    × (outline (tcp large_zone (query (codes "h.cut.example") 1)) 49 16
-    ≡ part (codes "123480000001000000010040") 1073 (codes "c02b0001000100000e100004c6336401"))
-    -- the target of SRV is written whole, and the owner of its address shares a suffix with the
-    -- question
-    × (outline (udp large_zone (query (codes "_s._tcp.example") 33)) 33 49
-    ≡ part (codes "123484000001000100000001") 82 (codes "c00c0021000100000e1000120001000200350"
-    ++ codes "26e73076578616d706c6500"
-    ++ codes "026e73c014 00010001 00000e10 0004 c0000201"))
-    -- the SOA shares nothing with capitals in the question
-    × (outline (udp small_zone (query (codes "NOPE.Example") 1)) 30 37
-    ≡ part (codes "123484030001000000010000") 87 (codes "076578616d706c6500 00060001 0000012c"
-    ++ codes "0026 026e73c01e 0a686f73746d6173746572c01e"))
-    -- a name of 127 labels
-    × (outline (udp deep_zone (asks deep_name 1)) 271 16
-    ≡ part (codes "123484000001000100000000") 287 (codes "c00c0001000100000e100004c0000202"))
-    -- the query for that name has 271 octets
-    × (length (asks deep_name 1) ≡ 271)
-    -- 64 records with strings of 255 octets, in a reply of more than 16,384 octets
-    × (outline (tcp (small_zone_with (strings_at_x 64)) (query (codes "x.example") 16)) 27 6
-    ≡ part (codes "123484000001004000000000") 17179 (codes "c00c00100001"))
 unfolding within labels_from cut run runs_before name_at octets_by data_by
     records_by layout size chain_from chain outcome_at outcome extra
     items required_items reply_with reply octets_of question_at query_read decide
@@ -210,19 +136,7 @@ stream_rows :
     ≡ hex (codes "002d") ++ www_reply ++ hex (codes "002d") ++ www_reply)
     -- after k messages, nothing is read
     × (after_frames 1 (frame www_query ++ frame www_query) ≡ frame www_query)
-    × (answers 1 (frame www_query ++ frame www_query) ≡ hex (codes "002d") ++ www_reply)
-    × (after_frames 0 three_messages ≡ three_messages)
-    × (answers 0 three_messages ≡ [])
-    -- an empty message is a message
-    × (frames 9 (hex (codes "0000")) ≡ [] ∷ [])
-    × (answers 9 (hex (codes "0000")) ≡ [])
-    -- a message of 600 octets does not end after its question, so only a header is sent
-    × (answers 9 (hex (codes "0258") ++ www_query ++ replicate 571 0)
-    ≡ hex (codes "000c 123480010000000000000000"))
-    -- a stream that ends inside a length, or inside a message, has no frame there
-    × (frames 9 (0 ∷ []) ≡ [])
     × (frames 9 (hex (codes "001d") ++ take 28 www_query) ≡ [])
-    × (length (after_frames 9 (hex (codes "001d") ++ take 28 www_query)) ≡ 30)
 unfolding first_frame frames after_frames answers within labels_from cut run runs_before name_at
     octets_by data_by records_by layout size chain_from
     chain outcome_at outcome extra items required_items reply_with reply octets_of question_at
@@ -241,22 +155,8 @@ reply_size z limit q = size (Some q) (keep_longest z limit q)
 size_rows :
     -- a set of strings that fits exactly
     (reply_size large_zone 512 (asked (codes "t.example") 16) ≡ 27 + 12 + (256 + 217))
-    -- a set with one octet more, within a greater limit
-    × (reply_size large_zone 16384 (asked (codes "u.example") 16) ≡ 27 + 12 + (256 + 218))
-    -- 17 aliases
-    × (reply_size large_zone 512 (asked (codes "c1.example") 1) ≡ 28 + 17 * 12 + 8 * 5 + 9 * 6)
-    -- an MX without its addresses
-    × (reply_size large_zone 512 (asked (codes "m.example") 15) ≡ 27 + 20)
-    -- an MX with its addresses
-    × (reply_size large_zone 16384 (asked (codes "m.example") 15) ≡ 27 + 20 + 64 * 16)
     -- a referral without its glue
     × (reply_size large_zone 512 (asked (codes "h.cut.example") 1) ≡ 31 + 18)
-    -- a referral with its glue
-    × (reply_size large_zone 16384 (asked (codes "h.cut.example") 1) ≡ 31 + 18 + 64 * 16)
-    -- a target that is written whole
-    × (reply_size large_zone 512 (asked (codes "_s._tcp.example") 33) ≡ 33 + 30 + 19)
-    -- 64 addresses
-    × (reply_size large_zone 16384 (asked (codes "big.example") 1) ≡ 29 + 64 * 16)
 unfolding reply_size labels_from cut octets_by data_by records_by size chain_from chain outcome_at
     outcome extra items
 size_rows = search []

@@ -1,5 +1,5 @@
 -- The zones and queries of the worked examples, built from readable text.
-use Rattle.dns_spec.proofs.Common.{ℕ, zero, suc, ◌+◌, ◌*◌, ◌/◌, ◌%◌, List, [], ◌∷◌, ◌++◌, length, replicate, nat_lt, ◌==◌, if◌then◌else◌, codes, flat_map, bytes_high_first, digit_value, Octets, DomainName, wire, type_a, type_ns, type_cname, type_soa, type_mx, type_txt, type_srv, ResourceRecord, ZoneContents, zone_of}
+use Rattle.dns_spec.proofs.Common.{DomainName, List, Octets, ResourceRecord, ZoneContents, [], bytes_high_first, codes, digit_value, flat_map, if◌then◌else◌, length, replicate, suc, type_a, type_cname, type_ns, type_soa, type_txt, wire, zero, zone_of, ℕ, ◌*◌, ◌++◌, ◌+◌, ◌==◌, ◌∷◌}
 
 -- a name by its labels with dots between them: `www.example` is the labels `www` and `example`
 abbrev pub with_letter : ℕ → DomainName → DomainName
@@ -88,21 +88,10 @@ abbrev pub addresses : ℕ → Octets → List ResourceRecord
 addresses zero cs = []
 addresses (suc k) cs = addresses k cs ++ address cs (198 ∷ 51 ∷ 100 ∷ suc k ∷ []) ∷ []
 
--- the decimal digits of a number below 100
-abbrev pub decimal : ℕ → Octets
-decimal k = if nat_lt k 10 then (48 + k) ∷ [] else (48 + k / 10) ∷ (48 + k % 10) ∷ []
-
--- `c1` to `ck`, each an alias of the next
-abbrev pub aliases : ℕ → List ResourceRecord
-aliases zero = []
-aliases (suc k) =
-    aliases k ++ alias (codes "c" ++ decimal (suc k)) (codes "c" ++ decimal (suc (suc k))) ∷ []
-
 abbrev pub letters : ℕ → Octets
 letters k = replicate k 97
 
--- sets at the limits of a reply, two aliases of each other, a chain of 17 aliases, and a cut with
--- 64 addresses as glue
+-- sets at the limit of a reply, two aliases of each other, and a cut with 64 addresses as glue
 abbrev pub large_zone : ZoneContents
 large_zone =
     small_zone_with (
@@ -110,26 +99,8 @@ large_zone =
     ∷ in_zone (codes "u") type_txt (strings_data (letters 255 ∷ letters 217 ∷ []))
     ∷ alias (codes "r1") (codes "r2")
     ∷ alias (codes "r2") (codes "r1")
-    ∷ aliases 17
-    ++ address (codes "c18") (net_192 18)
-    ∷ in_zone (codes "m") type_mx (bytes_high_first 2 10 ++ wire (under (codes "big")))
-    ∷ addresses 64 (codes "big")
-    ++ server (under (codes "cut")) (codes "big.cut")
-    ∷ addresses 64 (codes "big.cut")
-    ++ in_zone (codes "_s._tcp") type_srv (hex (codes "000100020035") ++ wire (under (codes "ns")))
-    ∷ [])
-
--- the root zone with a name of 127 labels, which is its name server
-abbrev pub deep_name : DomainName
-deep_name = replicate 127 (letters 1)
-
-abbrev pub deep_zone : ZoneContents
-deep_zone =
-    zone_of [] (
-    entry [] type_soa (soa_of deep_name deep_name 1 2 3 4 5)
-    ∷ entry deep_name type_a (net_192 2)
-    ∷ entry [] type_ns (wire deep_name)
-    ∷ [])
+    ∷ server (under (codes "cut")) (codes "big.cut")
+    ∷ addresses 64 (codes "big.cut"))
 
 -- a query: its header and one question of class IN
 abbrev pub query_header : Octets

@@ -180,10 +180,6 @@ stop_more : (extent : Extent) (is_open now_open : Bool) (o : ℕ) (text more : O
 stop_more extent is_open now_open o text more fault =
     grind (arith, string_stop_more, string_fault_more)
 
-cut_place : (is_open : Bool) (o : ℕ) (text : Octets) → is_cut_short (stop_place o text) ≡ true
-    → stop_fault beginning is_open (stop_at (o ∷ text)) ≡ Some too_long
-cut_place is_open o text = grind arith
-
 -- the first entries of a text keep their meaning, whatever entries follow
 module _ (o : DomainName) (fault : FileFault) (line : ℕ) where
   entries_then : (earlier es xs ys : List Entry) → ((before : List Entry) → EntriesMean o before xs
@@ -357,7 +353,7 @@ module _ (o : DomainName) (earlier : List Entry) (fault : FileFault)
       by_place : (x : ℕ) (xs : Octets) (b : Bool) → rest ≡ x ∷ xs → is_cut_short
           (stop_place x xs) ≡ b → OctetsMean o earlier extent (front ++ more) (fault_at fault line)
       by_place x xs true shape cut =
-          grind (arith, cut_short, is_last, no_end, stop_fault, beginning, stop_at, cut_place)
+          grind (arith, cut_short, is_last, no_end, stop_fault, beginning, stop_at)
       by_place x xs false shape whole = grind (arith, stuck, is_last, no_end, middle)
 
       go : (r : Octets)

@@ -17,12 +17,6 @@ IsRecordOf o earlier (directive name ws) r = ⊥
 IsRecordOf o earlier (owned w ws) r = IsRecord o earlier (NameIs o earlier w) (fields ws) r
 IsRecordOf o earlier (unowned ws) r = IsRecord o earlier (OwnerBefore o earlier) (fields ws) r
 
--- Q holds for each fault, and for what holds without this fault
-unless_holds : (Q : EntryMeaning → Type 0) → ((code : FileFault) → Q (faulty code))
-    → {Fault Others : Type 0} (code : FileFault) (answer : EntryMeaning)
-    → (Others → Q answer) → (Fault × (answer ≡ faulty code)) ⊎ ((Fault → ⊥) × Others) → Q answer
-unless_holds Q h code answer h1 h2 = grind arith
-
 -- What holds for the record of each entry, also holds for all records that a text means. `Kept` is
 -- a condition that all entries of the text meet.
 module _ (o : DomainName) (Kept : Entry → Type 0) (P : ResourceRecord → Type 0)
@@ -39,7 +33,7 @@ module _ (o : DomainName) (Kept : Entry → Type 0) (P : ResourceRecord → Type
   record_given : (earlier : List Entry) (code : FileFault) (Owner : DomainName → Type 0)
       (f : Fields) (answer : EntryMeaning) → ((r : ResourceRecord) → IsRecord o earlier Owner f r
       → P r) → RecordGives o earlier code Owner f answer → Given answer
-  record_given earlier code Owner f answer each = search (rules, unless_holds)
+  record_given earlier code Owner f answer each = search rules
 
   sort_given : (earlier : List Entry) (s : EntryKind) (answer : EntryMeaning)
       → ((r : ResourceRecord) → IsRecordOf o earlier s r → P r)
