@@ -3,14 +3,11 @@ pub use Rattle.dns_spec.proofs.Common.{Bool, Consumes, DataIs, DomainName, Entri
 unfoldable pub use Rattle.dns_spec.proofs.Common.{cut, run_length}
 pub use Rattle.std.specs.Cmp.Lexicographic.{pointwise, same_text}
 pub use Rattle.std.specs.List.{position}
-pub use Rattle.std.specs.Option.{option_and}
 pub use Rattle.std.proofs.lemmas.List.{at_drop_more}
 pub use Rattle.dns_master.specs.Codes.{ForFault, IsFaultOn, OfEntry, OfFile, code_number, failures_after_read, fault_of}
 pub use Rattle.dns_master.specs.EntryForm.{EntryRead, IsWhole, IsWrong, Outcome, Reads, Step, TextMeans, line_ends, misplaced, onward, outcome_of, over, step, token_words, unended, wrong}
-pub use Rattle.dns_master.specs.OwnedBody.{with_owner}
-pub use Rattle.dns_master.specs.PieceForm.{FrontFaulty, FrontAdded, FrontTaken, MayFollow, PieceFaulty, PieceTaken, ReaderMeans, TextAdded}
-pub use Rattle.dns_master.specs.ReaderForm.{EntryTaken, Knows, RecordTaken, owner_of}
-pub use Rattle.dns_master.specs.RecordForm.{Inherited, IsKept, LastOwner, SpelledName, SpelledOwner, TtlOf}
+pub use Rattle.dns_master.specs.PieceForm.{AllGive, FrontFaulty, FrontAdded, FrontTaken, Knows, MayFollow, PieceFaulty, PieceTaken, ReaderMeans, TextAdded}
+pub use Rattle.dns_master.specs.RecordForm.{IsKept, LastOwner, SpelledName, SpelledOwner}
 pub use Rattle.dns_master.specs.SourceForm.{AppendsPiece, Decides, IsRead, ReadsFile}
 pub use Rattle.dns_master.specs.TokenForm.{by_itself, shown_token}
 pub use Rattle.dns_master.specs.WordsForm.{Found, KeptAndCounted, words_from, words_in, words_of_first}
@@ -20,7 +17,7 @@ pub use Rattle.dns_master.specs.declared.read_fault.ReadCode.TheVariants.{BadDat
 pub use Rattle.dns_master.specs.declared.read_fault.ReadFault.{ReadFault}
 pub use Rattle.dns_master.specs.declared.run.RunKind.{RunKind}
 pub use Rattle.dns_master.specs.declared.run.TheConstants.{PLAIN_IN}
-pub use Rattle.dns_master.specs.declared.state.Reader.{Reader}
+pub use Rattle.dns_master.specs.declared.reader.Reader.{Reader}
 pub use Rattle.dns_spec.proofs.DataWords.LoweredData.{folded_folded, lowered-twice}
 pub use Rattle.dns_spec.proofs.DataWords.TypeWords.{one_type}
 pub use Rattle.dns_spec.proofs.NameTexts.Escapes.{counted_escape, escape-counted}
@@ -29,4 +26,4 @@ pub use Rattle.dns_spec.proofs.ZoneTexts.BeginningsMean.{beginning_decides}
 pub use Rattle.dns_spec.proofs.ZoneTexts.TextTokens.{front-shorter, has_tokens, tokens_cut}
 pub use Rattle.dns_spec.specs.Meaning.{is_directive}
 pub use Rattle.dns_spec.specs.ZoneText.{begins_blank, is_blank_token}
-pub use Rattle.dns_spec.proofs.General.Results.{fault_handed_on, fault_turned}
+pub use Rattle.dns_spec.proofs.General.Results.{fault_handed_on}

@@ -1,5 +1,5 @@
 -- A text gives at most 100,000 records, whether or not it has faults.
-use Rattle.dns_master.proofs.Common.{◌≡◌, ℕ, ◌+◌, ◌-◌, ◌≤◌, Bool, true, false, cond, List, [], ◌∷◌, length, filter, refl, sym, ap, ◌∙◌, subst, inl, inr, arith, Option, Some, None, IsTrue, DomainName, ResourceRecord, Word, Entry, FileFault, EntryMeaning, faulty, gives, EntryKind, no_words, directive, owned, unowned, kind_of, is_record, are_too_many, Fields, RecordGives, KindGives, MatchOption}
+use Rattle.dns_master.proofs.Common.{◌≡◌, ℕ, ◌+◌, ◌-◌, ◌≤◌, Bool, true, false, cond, List, [], ◌∷◌, length, filter, refl, sym, ap, ◌∙◌, subst, inl, inr, arith, Option, Some, None, IsTrue, Octets, DomainName, ResourceRecord, Meaning, Means, EntriesMean, records, fault_at, false≢true, Word, Entry, FileFault, EntryMeaning, faulty, gives, EntryKind, no_words, directive, owned, unowned, kind_of, is_record, are_too_many, Fields, RecordGives, KindGives, MatchOption}
 use Rattle.dns_spec.specs.ZoneText.{lexical_fault}
 use Rattle.std.proofs.Common.{length-append}
 use Rattle.std.specs.Bool.{MatchBool}
@@ -8,19 +8,19 @@ use Rattle.dns_spec.specs.EntryPlaces.{PlacedEntry}
 use Rattle.dns_spec.specs.AllFaults.{EntryFault, EntriesGive, GivesOwn, LookBack, is_last}
 
 -- how many more records a text may have after these entries
-abbrev room : List Entry → ℕ
-room earlier = 100000 - length (filter is_record earlier)
+abbrev records_left : List Entry → ℕ
+records_left earlier = 100000 - length (filter is_record earlier)
 
-none_fits : (earlier : List Entry) (e : Entry) → room (e ∷ earlier) ≤ room earlier
+none_fits : (earlier : List Entry) (e : Entry) → records_left (e ∷ earlier) ≤ records_left earlier
 none_fits earlier e = go (is_record e)
   where
     go : (b : Bool) → 100000 - length (cond b (e ∷ filter is_record earlier)
-        (filter is_record earlier)) ≤ room earlier
+        (filter is_record earlier)) ≤ records_left earlier
     go true = omega arith
     go false = omega arith
 
 one_fits : (earlier : List Entry) (e : Entry) → is_record e ≡ true
-    → (IsTrue (are_too_many earlier) → ⊥) → 1 + room (e ∷ earlier) ≤ room earlier
+    → (IsTrue (are_too_many earlier) → ⊥) → 1 + records_left (e ∷ earlier) ≤ records_left earlier
 one_fits earlier e is few = grind arith
 
 own_in : EntryMeaning → List ResourceRecord
@@ -58,7 +58,7 @@ module _ (o : DomainName) (earlier : List Entry) (own : List ResourceRecord) whe
 
   module _ (e : Entry) where
     abbrev Fits : Type 0
-    Fits = length own + room (e ∷ earlier) ≤ room earlier
+    Fits = length own + records_left (e ∷ earlier) ≤ records_left earlier
 
     nothing_fits : own ≡ [] → Fits
     nothing_fits is =
@@ -68,7 +68,7 @@ module _ (o : DomainName) (earlier : List Entry) (own : List ResourceRecord) whe
 
     single_fits : is_record e ≡ true → One → Fits
     single_fits is h =
-        subst (λ n. n + room (e ∷ earlier) ≤ room earlier) (sym h.one) (one_fits earlier e is h.few)
+        subst (λ n. n + records_left (e ∷ earlier) ≤ records_left earlier) (sym h.one) (one_fits earlier e is h.few)
 
     kind_fits : (s : EntryKind) → kind_of e ≡ s → KindGives o earlier s (gives own) → Fits
     kind_fits no_words is h = nothing_fits (own_is own [] h)
@@ -87,25 +87,25 @@ module _ (o : DomainName) (earlier : List Entry) (own : List ResourceRecord) whe
         by_lexical (Some fault) h = absurd (faultless own fault h)
 
 back_fits : (o : DomainName) (e : Entry) (earlier now : List Entry) → LookBack o e earlier now
-    → room now ≤ room earlier
+    → records_left now ≤ records_left earlier
 back_fits o e earlier now (inl (_, is)) =
-    subst (λ l. room l ≤ room earlier) (sym is) (none_fits earlier e)
-back_fits o e earlier now (inr (_, is)) = subst (λ l. room l ≤ room earlier) (sym is) (omega arith)
+    subst (λ l. records_left l ≤ records_left earlier) (sym is) (none_fits earlier e)
+back_fits o e earlier now (inr (_, is)) = subst (λ l. records_left l ≤ records_left earlier) (sym is) (omega arith)
 
 none_left : (rs : List ResourceRecord) (n : ℕ) → rs ≡ [] → length rs ≤ n
 none_left rs n is = subst (λ l. length l ≤ n) (sym is) (omega arith)
 
 fits : (o : DomainName) (earlier : List Entry) (es : List PlacedEntry) (found : List EntryFault)
-    (rs : List ResourceRecord) → EntriesGive o earlier es found rs → length rs ≤ room earlier
-fits o earlier [] found rs h = none_left rs (room earlier) h.1
+    (rs : List ResourceRecord) → EntriesGive o earlier es found rs → length rs ≤ records_left earlier
+fits o earlier [] found rs h = none_left rs (records_left earlier) h.1
 fits o earlier (e ∷ es) found rs (inl (f, has, (more, is, tail))) =
     by_last (is_last f.fault) tail (λ now h. fits o now es more rs h)
   where
     by_last : (b : Bool) → MatchBool b ((more ≡ []) × (rs ≡ []))
         ((now : List Entry) × LookBack o e.entry earlier now × EntriesGive o now es more rs)
-        → ((now : List Entry) → EntriesGive o now es more rs → length rs ≤ room now)
-        → length rs ≤ room earlier
-    by_last true h later = none_left rs (room earlier) h.1
+        → ((now : List Entry) → EntriesGive o now es more rs → length rs ≤ records_left now)
+        → length rs ≤ records_left earlier
+    by_last true h later = none_left rs (records_left earlier) h.1
     by_last false (now, back, h) later =
         let less = later now h in
         let fewer = back_fits o e.entry earlier now back in
@@ -115,6 +115,33 @@ fits o earlier (e ∷ es) found rs (inr (own, given, (later, is, h))) =
     let whole = ap length is ∙ length-append own later in
     let own_less = own_fits o earlier own e.entry given in
     omega (arith, less, whole, own_less)
+
+meaning_records : Meaning → List ResourceRecord
+meaning_records (records rs) = rs
+meaning_records (fault_at fault line) = []
+
+is_fault : Meaning → Bool
+is_fault (records rs) = false
+is_fault (fault_at fault line) = true
+
+entries-few : (o : DomainName) (earlier es : List Entry) (rs : List ResourceRecord)
+    → EntriesMean o earlier es (records rs) → length rs ≤ records_left earlier
+unfolding meaning_records is_fault
+entries-few o earlier [] rs h = none_left rs (records_left earlier) (ap meaning_records h)
+entries-few o earlier (e ∷ es) rs (faulty fault, given, is) =
+    absurd (false≢true (ap is_fault is))
+entries-few o earlier (e ∷ es) rs (gives own, given, (fault_at fault line, h, is)) =
+    absurd (false≢true (ap is_fault is))
+entries-few o earlier (e ∷ es) rs (gives own, given, (records later, h, is)) =
+    let less = entries-few o (e ∷ earlier) es later h in
+    let whole = ap length (ap meaning_records is) ∙ length-append own later in
+    let own_less = own_fits o earlier own e (inl given) in
+    omega (arith, less, whole, own_less)
+
+-- a text means at most 100,000 records
+pub means-few : (o : DomainName) (text : Octets) (rs : List ResourceRecord)
+    → Means o text (records rs) → length rs ≤ 100000
+means-few o text rs h = entries-few o [] h.0 rs h.2
 
 pub few_given : (o : DomainName) (es : List PlacedEntry) (found : List EntryFault)
     (rs : List ResourceRecord) → EntriesGive o [] es found rs → length rs ≤ 100000

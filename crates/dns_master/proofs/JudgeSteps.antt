@@ -1,5 +1,5 @@
 -- The parts of a record, in order, if earlier entries may be faulty; and the places of its faults.
-use Rattle.dns_master.proofs.Common.{◌≡◌, ℕ, ◌+◌, ◌≤◌, Bool, true, false, List, [], ◌∷◌, length, drop, prefix_len, prefix_len-le-length, refl, sym, ap, ◌∙◌, subst, inl, inr, arith, codes, Option, Some, None, false≢true, none-some, is_none, Octets, DomainName, folded, SpellsName, ResourceRecord, Word, Says, Entry, FileFault, bad_data, bad_type, bad_owner, no_owner, no_ttl, other_class, too_many_records, directive_words, Nothing, Lowest, IsRecord, Fields, fields, EntryKind, directive, owned, unowned, EntryMeaning, faulty, gives, OriginIs, NameIs, OwnerBefore, TtlSays, ttl_in_force, TypeIs, DataIs, IsNoTtl, is_other_class, not, are_too_many, RecordGives, KindGives, MatchOption, IsTrue, TtlOf, SpelledName, same_Some, nat_le, ◌==◌, list_all}
+use Rattle.dns_master.proofs.Common.{cut, lower_case, lowered-twice, IsKept, ◌⊎◌, ◌≡◌, ℕ, ◌+◌, ◌-◌, ◌≤◌, Bool, true, false, List, [], ◌∷◌, length, drop, prefix_len, prefix_len-le-length, refl, sym, ap, ◌∙◌, subst, inl, inr, arith, codes, Option, Some, None, false≢true, none-some, is_none, Octets, DomainName, folded, SpellsName, ResourceRecord, Word, Says, Entry, FileFault, bad_data, bad_type, bad_owner, no_owner, no_ttl, other_class, too_many_records, directive_words, Nothing, Lowest, IsRecord, Fields, fields, EntryKind, directive, owned, unowned, EntryMeaning, faulty, gives, OriginIs, NameIs, OwnerBefore, TtlSays, ttl_in_force, TypeIs, DataIs, IsNoTtl, is_other_class, not, are_too_many, RecordGives, KindGives, MatchOption, IsTrue, option_or, same_Some, nat_le, ◌==◌, list_all}
 use Rattle.std.specs.Bool.{MatchBool}
 use Rattle.dns_spec.specs.FileFaults.{bad_octet, bad_escape, unended_string, bad_parenthesis, unknown_directive, bad_ttl, too_long, unreadable, no_memory}
 use Rattle.dns_spec.specs.Meaning.{is_ttl_word, is_class_word}
@@ -8,16 +8,14 @@ use Rattle.dns_spec.specs.DataText.{is_unknown_mark, word_fields_of}
 use Rattle.dns_spec.specs.DataFaults.{DataFaultIs}
 use Rattle.dns_spec.specs.AllFaults.{FaultyField, FaultyUnknown, FaultyTyped, FaultyData, ForData, NumberIs, record_words, words_before, is_hex}
 use Rattle.dns_spec.proofs.ZoneTexts.OneMeaning.{type_once}
-use Rattle.dns_master.proofs.RecordSteps.{ttl-stated}
-use Rattle.dns_master.proofs.KnowsSteps.{given-owner}
-use Rattle.dns_master.specs.EarlierForm.{SeenTtl, LooksBack}
-use Rattle.std.specs.Prelude.{◌↔◌, ◌<◌, Result, Ok, Err, is_err, IfOk, IfErr}
+use Rattle.std.specs.Option.{is_some, ForSome}
+use Rattle.dns_master.specs.EarlierForm.{SeenTtl, LooksBack, LooksBackTo}
+use Rattle.std.specs.Prelude.{◌↔◌, ◌<◌, Result, Ok, Err, IfOk, IfErr}
 use Rattle.dns_master.proofs.Common.{ReadCode, DirectiveWords, fault_of, length-drop, cond, LastOwner}
-use Rattle.dns_spec.specs.NameText.{name_fault}
 use Rattle.dns_master.proofs.Common.{if◌then◌else◌}
-use Rattle.dns_master.specs.declared.read_fault.ReadCode.TheVariants.{BadOwner}
 use Rattle.dns_master.specs.declared.earlier.Earlier.{Earlier}
-use Rattle.dns_master.specs.declared.judge.Blame.{Blame}
+use Rattle.dns_master.specs.declared.earlier.Blame.{Blame}
+use Rattle.dns_master.specs.declared.earlier.RecordFault.{RecordFault}
 use Rattle.dns_master.specs.JudgeForm.{BlamedWord, Blamed, KindOwn, NeverGives, FieldsGive, OwnedGives, FieldsDetail, FieldsBlamed, words_to, one_unless}
 
 -- one of two cases, by a test
@@ -69,9 +67,6 @@ fields-data_few t others o i h =
     let few = data_few t (drop 1 others) o i h in
     let less = length-drop 1 others in omega (arith, few, less)
 
-pub few_by : (b : Blame) (n m : ℕ) → b.words ≡ n → n ≤ m → b.words ≤ m
-few_by b n m is few = omega (arith, is, few)
-
 -- the fields leave at most the words that there are
 pub fields-few : (ws : List Word) → length (fields ws).others ≤ length ws
 fields-few [] = omega arith
@@ -115,17 +110,43 @@ seen_ttl None x n h e = none-some (Some n) (sym h ∙ e)
 seen_ttl (Some w) x n h e =
     (h.2 n).0 (sym (same_Some (Some n) h.0 (sym e ∙ h.1)))
 
-pub seen_short : (w : Option Word) (x : Option (Option ℕ)) (n : ℕ) → SeenTtl w x
-    → x ≡ Some (Some n) → n ≤ 2147483647
-seen_short None x n h e = absurd (none-some (Some n) (sym h ∙ e))
-seen_short (Some w) x n h e =
-    let says : TtlSays w n = (h.2 n).0 (sym (same_Some (Some n) h.0 (sym e ∙ h.1))) in says.2
-
 seen_invalid : (w : Option Word) (x : Option (Option ℕ)) (n : ℕ) → SeenTtl w x
     → x ≡ Some None → MatchOption w ⊥ (λ w. TtlSays w n) → ⊥
 seen_invalid None x n h e k = k
 seen_invalid (Some w) x n h e k =
     none-some n (same_Some None h.0 (sym e ∙ h.1) ∙ (h.2 n).1 k)
+
+seen-or : (v w : Option Word) (m n : Option (Option ℕ)) → SeenTtl v m → SeenTtl w n
+    → SeenTtl (option_or v w) (option_or m n)
+seen-or None w m n h k = rw h k
+seen-or (Some v) w m n h k = (h.0, ap (λ x. option_or x n) h.1, h.2)
+
+-- what was seen of the TTL that a record states, and of the last one before it that is stated
+module _ (stated w : Option Word) (seen : Option (Option ℕ))
+    (h : SeenTtl (option_or stated w) seen) where
+  pub in-force : (d : Option Word) (default : Option (Option ℕ)) (b : Bool)
+      → b ≡ is_some stated → SeenTtl d default
+      → SeenTtl (option_or stated (option_or d w)) (if b then seen else option_or default seen)
+  in-force d default b e k = go stated h e
+    where
+      go : (stated : Option Word) → SeenTtl (option_or stated w) seen → b ≡ is_some stated
+          → SeenTtl (option_or stated (option_or d w)) (if b then seen else option_or default seen)
+      go None h e = rw e (seen-or d w default seen k h)
+      go (Some v) h e = rw e h
+
+  pub ttl-valid : (is_some stated ≡ true → seen ≡ Some None → ⊥) → IsNoTtl stated → ⊥
+  ttl-valid valid = go stated h valid
+    where
+      by_value : (v : Word) (x : Option ℕ) → ((n : ℕ) → (x ≡ Some n) ↔ TtlSays v n)
+          → (x ≡ None → ⊥) → IsNoTtl (Some v) → ⊥
+      by_value v None says some none = some refl
+      by_value v (Some n) says some none = none n ((says n).0 refl)
+
+      go : (stated : Option Word) → SeenTtl (option_or stated w) seen
+          → (is_some stated ≡ true → seen ≡ Some None → ⊥) → IsNoTtl stated → ⊥
+      go None h valid none = none
+      go (Some v) h valid none =
+          by_value v h.0 h.2 (λ e. valid refl (h.1 ∙ ap (λ x. Some x) e)) none
 
 module _ (o : DomainName) (earlier : List Entry) (owner : DomainName) (f : Fields) where
   named : Nothing (λ (n : DomainName). n ≡ owner) → ⊥
@@ -134,7 +155,15 @@ module _ (o : DomainName) (earlier : List Entry) (owner : DomainName) (f : Field
   is_in : is_other_class f.class ≡ false → is_other_class f.class ≡ true → ⊥
   is_in e h = false≢true (sym e ∙ h)
 
-  module _ (stated : Option ℕ) (seen : Option (Option ℕ)) (t : ℕ) (a : TtlOf f.ttl stated)
+  pub class-blamed : (IsNoTtl f.ttl → ⊥) → is_other_class f.class ≡ true
+      → OwnedGives o earlier owner f (faulty other_class)
+  class-blamed a h = inr (named, inr (a, inl (h, refl)))
+
+  pub type-blamed : (IsNoTtl f.ttl → ⊥) → is_other_class f.class ≡ false
+      → Nothing (TypeIs f.others) → OwnedGives o earlier owner f (faulty bad_type)
+  type-blamed a b h = inr (named, inr (a, inr (is_in b, inl (h, refl))))
+
+  module _ (seen : Option (Option ℕ)) (t : ℕ) (a : IsNoTtl f.ttl → ⊥)
       (b : is_other_class f.class ≡ false) (c : TypeIs f.others t)
       (k : SeenTtl (ttl_in_force earlier f.ttl) seen) where
     typed : Nothing (TypeIs f.others) → ⊥
@@ -145,7 +174,7 @@ module _ (o : DomainName) (earlier : List Entry) (owner : DomainName) (f : Field
         inr (
           named,
           inr (
-            ttl-stated f.ttl stated a,
+            a,
             inr (is_in b, inr (typed, inl (none_seen (ttl_in_force earlier f.ttl) seen k e, refl))),
           ),
         )
@@ -161,7 +190,7 @@ module _ (o : DomainName) (earlier : List Entry) (owner : DomainName) (f : Field
           inr (
             named,
             inr (
-              ttl-stated f.ttl stated a,
+              a,
               inr (
                 is_in b,
                 inr (typed, inr (some_seen (ttl_in_force earlier f.ttl) seen v k e, rest)),
@@ -205,7 +234,7 @@ module _ (o : DomainName) (earlier : List Entry) (owner : DomainName) (f : Field
             (Owner : DomainName → Type 0) → (Nothing Owner → ⊥)
             → (given : EntryMeaning) → RecordGives o earlier code Owner f given → ⊥
         never v_is few code Owner some given (inl h) = some h.0
-        never v_is few code Owner some given (inr (x, inl h)) = ttl-stated f.ttl stated a h.0
+        never v_is few code Owner some given (inr (x, inl h)) = a h.0
         never v_is few code Owner some given (inr (x, inr (y, inl h))) = is_in b h.0
         never v_is few code Owner some given (inr (x, inr (y, inr (z, inl h)))) = typed h.0
         never v_is few code Owner some given (inr (x, inr (y, inr (z, inr (u, inl h))))) =
@@ -299,8 +328,8 @@ module _ (o : DomainName) (earlier : List Entry) (s : EntryKind) where
       → i ≡ words_before s + words_to fault ws n → BlamedWord o earlier s fault i
   word_by bad_ttl number n i d e = e ∙ ap (λ m. words_before s + m) (ttl_place ws d.1)
   word_by other_class number n i d e = e ∙ ap (λ m. words_before s + m) (class_place ws d.1)
-  word_by bad_type number n i d e = let none = d.1 in omega (arith, e, none)
-  word_by no_ttl number n i d e = let none = d.1 in omega (arith, e, none)
+  word_by bad_type number n i d e = e
+  word_by no_ttl number n i d e = e
   word_by bad_data number n i d e =
       (d.1.0, d.1.1, (d.1.2.0, d.1.2.1, (n, d.1.2.2, omega (arith, e))))
   word_by too_many_records number n i d e = tt
@@ -320,8 +349,8 @@ module _ (o : DomainName) (earlier : List Entry) (s : EntryKind) where
       → NumberIs o earlier s fault number
   number_by bad_ttl number n d = d.0
   number_by other_class number n d = d.0
-  number_by bad_type number n d = d.0
-  number_by no_ttl number n d = d.0
+  number_by bad_type number n d = d
+  number_by no_ttl number n d = d
   number_by bad_data number n d = d.0
   number_by too_many_records number n d = d
   number_by bad_owner number n d = absurd d
@@ -350,13 +379,6 @@ blamed-by o earlier s b code number i p q r given number_is word =
       word = subst (λ c. BlamedWord o earlier s (fault_of c) b.words) (sym p)
           (subst (λ j. BlamedWord o earlier s (fault_of code) j) (sym r) word);
     }
-
--- a word spells a name if reading it does not fail
-pub spelled-by : {E : Type 0} (origin : DomainName) (raw : Octets) (r : Result DomainName E)
-    → ((n : DomainName) → (r ≡ Ok n) ↔ SpellsName origin raw n) → is_err r ≡ false
-    → (n : DomainName) × SpellsName origin raw n
-spelled-by origin raw (Ok n) h e = (n, (h n).0 refl)
-spelled-by origin raw (Err x) h e = absurd (false≢true (sym e))
 
 pub said-by : (w : Word) (v : Option ℕ) → ((n : ℕ) → (v ≡ Some n) ↔ TtlSays w n)
     → is_none v ≡ false → (n : ℕ) × TtlSays w n
@@ -408,6 +430,29 @@ module _ (o : DomainName) (earlier : List Entry) (k : Earlier) (known : LooksBac
           origin = λ none. none k.origin known.origin_is;
         }
 
+otherwise : {F N X Y : Type 0} → (X → Y) → F ⊎ (N × X) → F ⊎ (N × Y)
+otherwise f (inl h) = inl h
+otherwise f (inr h) = inr (h.0, f h.1)
+
+module _ (o : DomainName) (earlier : List Entry) (Owner : DomainName → Type 0)
+    (f : Fields) (n owner : DomainName) (is : Owner n) (low : owner ≡ folded n)
+    (twice : folded owner ≡ owner) where
+  owned_record : (answer : EntryMeaning)
+      → (r : ResourceRecord) × IsRecord o earlier (λ m. m ≡ owner) f r × (answer ≡ gives (r ∷ []))
+      → (r : ResourceRecord) × IsRecord o earlier Owner f r × (answer ≡ gives (r ∷ []))
+  owned_record answer (r, h, e) = grind (arith, folded)
+
+  -- a record means the same with the owner that was stated as with that owner in lower case
+  pub given-owner : (code : FileFault) (answer : EntryMeaning) → RecordGives o earlier no_owner
+      (λ m. m ≡ owner) f answer → RecordGives o earlier code Owner f answer
+  given-owner code answer (inl h) = absurd (h.0 owner refl)
+  given-owner code answer (inr h) =
+      inr (
+        (λ none. none n is),
+        otherwise
+            (otherwise (otherwise (otherwise (otherwise (otherwise (owned_record answer)))))) h.1,
+      )
+
 -- a record of an entry with this owner, by its fields
 module _ (o : DomainName) (earlier : List Entry) (owner : DomainName) (b : Blame) (n : ℕ)
     (twice : folded owner ≡ owner) where
@@ -435,23 +480,23 @@ module _ (o : DomainName) (earlier : List Entry) (owner : DomainName) (b : Blame
         word = word_by o earlier (unowned ws) (fault_of b.code) b.number n b.words h.detail i;
       }
 
--- a blame of fields by its parts
+-- a fault of fields by its parts
 pub fields-by : (o : DomainName) (earlier : List Entry) (owner : DomainName) (f : Fields)
-    (b : Blame) (code : ReadCode) (number : Option ℕ) (n : ℕ) → b.code ≡ code
-    → b.number ≡ number → b.words ≡ n → OwnedGives o earlier owner f (faulty (fault_of code))
+    (r : RecordFault) (code : ReadCode) (number : Option ℕ) (n : ℕ) → r.code ≡ code
+    → r.number ≡ number → OwnedGives o earlier owner f (faulty (fault_of code))
     → FieldsDetail o earlier f (fault_of code) number n
-    → FieldsBlamed o earlier owner f (fault_of b.code) b.number b.words
-fields-by o earlier owner f b code number n p q r given detail =
+    → FieldsBlamed o earlier owner f (fault_of r.code) r.number n
+fields-by o earlier owner f r code number n p q given detail =
     record {
       given = subst (λ c. OwnedGives o earlier owner f (faulty (fault_of c))) (sym p) given;
-      detail = subst (λ c. FieldsDetail o earlier f (fault_of c) b.number b.words) (sym p)
-          (subst (λ m. FieldsDetail o earlier f (fault_of code) m b.words) (sym q)
-          (subst (λ j. FieldsDetail o earlier f (fault_of code) number j) (sym r) detail));
+      detail = subst (λ c. FieldsDetail o earlier f (fault_of c) r.number n) (sym p)
+          (subst (λ m. FieldsDetail o earlier f (fault_of code) m n) (sym q) detail);
     }
 
 -- a record that gives at most its record, by its fields
 module _ (o : DomainName) (earlier : List Entry) (owner : DomainName) (rs : List ResourceRecord)
-    (k : Earlier) (known : LooksBack o earlier k) (twice : folded owner ≡ owner) where
+    (last : Option DomainName) (k : Earlier) (known : LooksBackTo o earlier last k)
+    (twice : folded owner ≡ owner) where
   pub owned-own : (w : Word) (ws : List Word) (m : DomainName) → NameIs o earlier w m
       → owner ≡ folded m
       → FieldsGive o earlier owner (fields ws) rs → KindOwn o earlier (owned w ws) rs
@@ -465,15 +510,15 @@ module _ (o : DomainName) (earlier : List Entry) (owner : DomainName) (rs : List
         origin = λ none. none k.origin known.origin_is;
       }
 
-  pub unowned-own : (ws : List Word) → k.owner ≡ Some owner
+  pub unowned-own : (ws : List Word) → last ≡ Some owner
       → FieldsGive o earlier owner (fields ws) rs → KindOwn o earlier (unowned ws) rs
   unowned-own ws e h =
-      let last = subst (LastOwner o earlier) e known.owner_is in
+      let before = subst (LastOwner o earlier) e known.owner_is in
       record {
         given = elim h [
-          | inl g ↦ inl (given-owner o earlier (OwnerBefore o earlier) (fields ws) last.0 owner
-              last.1 last.2 twice no_owner (gives rs) g)
-          | inr g ↦ inr (g.0.unowned last.0 last.1, g.1)
+          | inl g ↦ inl (given-owner o earlier (OwnerBefore o earlier) (fields ws) before.0 owner
+              before.1 before.2 twice no_owner (gives rs) g)
+          | inr g ↦ inr (g.0.unowned before.0 before.1, g.1)
         ];
         origin = λ none. none k.origin known.origin_is;
       }
@@ -488,16 +533,30 @@ pub map-err : {A E : Type 0} {P Q : E → Type 0} (r : Result A E) → ((e : E) 
 map-err (Ok a) f h = h
 map-err (Err e) f h = f e h
 
--- a record with an invalid owner
-pub owner-blamed : (o : DomainName) (earlier : List Entry) (k : Earlier)
-    → LooksBack o earlier k → (w : Word) (ws : List Word) (b : Blame) → b.code ≡ BadOwner
-    → b.number ≡ (if w.is_quoted then None else Some (name_fault w.raw)) → b.words ≡ 0
-    → Nothing (SpelledName k.origin w) → Blamed o earlier (owned w ws) b
-owner-blamed o earlier k known w ws b p q r none =
-    blamed-by o earlier (owned w ws) b BadOwner
-    (if w.is_quoted then None else Some (name_fault w.raw)) 0 p q r
-    (inl (
-      (λ n h. none n
-          (h.0, subst (λ m. SpellsName m w.raw n) (known.no_other h.1.0 h.1.1) h.1.2)),
-      refl,
-    )) refl refl
+-- the TTL in force is within its limit
+pub in-force_short : (b : Bool) (default stated seen : Option (Option ℕ)) (n : ℕ)
+    → seen ≡ (if b then stated else option_or default stated) → seen ≡ Some (Some n)
+    → ForSome default (λ t. ForSome t (λ m. m ≤ 2147483647))
+    → ForSome stated (λ t. ForSome t (λ m. m ≤ 2147483647)) → n ≤ 2147483647
+in-force_short true default stated seen n is e h k = k (Some n) (sym is ∙ e) n refl
+in-force_short false None stated seen n is e h k = k (Some n) (sym is ∙ e) n refl
+in-force_short false (Some t) stated seen n is e h k = h (Some n) (sym is ∙ e) n refl
+
+-- whether a record that was passed was one too many
+pub too-many : (before now n : ℕ) → now ≡ before - 1 → before ≡ 100001 - n → now ≡ 0
+    → nat_le 100000 n ≡ true
+too-many before now n p q r = grind (arith, p, q, r)
+
+pub not-too-many : (before now n : ℕ) → now ≡ before - 1 → before ≡ 100001 - n → (now ≡ 0 → ⊥)
+    → nat_le 100000 n ≡ false
+not-too-many before now n p q r = grind (arith, p, q, r)
+
+-- data from words has its names in lower case
+pub said-lowered : (t : ℕ) (ws : List Word) (o : DomainName) (d : Octets)
+    → Says t ws o d → lower_case t d ≡ d
+said-lowered t ws o d e = grind (arith, lower_case, lowered-twice)
+
+-- the root as owner, with TTL 0, type 0 and no data, satisfies the invariant of records
+pub no_data-kept : IsKept [] 0 0 []
+unfolding cut
+no_data-kept = grind arith

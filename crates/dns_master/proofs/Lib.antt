@@ -3,9 +3,7 @@ pub mod RunLemmas
 pub mod RunTable
 pub mod EntryLoop
 pub mod WordSteps
-pub mod RecordSteps
 pub mod Refusals
-pub mod KnowsSteps
 pub mod EntryCuts
 pub mod TextSteps
 pub mod PieceSteps

@@ -1,5 +1,5 @@
 -- The faults of the entries so far, and of the entries after them.
-use Rattle.dns_master.proofs.Common.{take, take_all, drop, drop_all, ◌≡◌, ℕ, zero, suc, ◌-◌, ◌<◌, Bool, true, false, false≢true, List, [], ◌∷◌, ◌++◌, append_assoc, append-nil, length, refl, sym, ap, ◌∙◌, subst, inl, inr, arith, Option, Some, None, Octets, DomainName, ResourceRecord}
+use Rattle.dns_master.proofs.Common.{take, take_all, drop, drop_all, ◌≡◌, ℕ, zero, suc, ◌-◌, ◌<◌, not, Bool, true, false, false≢true, List, [], ◌∷◌, ◌++◌, append_assoc, append-nil, length, refl, sym, ap, ◌∙◌, subst, inl, inr, arith, Option, Some, None, Octets, DomainName, ResourceRecord}
 use Rattle.std.proofs.Common.{subst₂, min}
 use Rattle.dns_spec.specs.ZoneText.{most_octets}
 use Rattle.dns_master.proofs.GivenCount.{few_given}
@@ -83,7 +83,7 @@ own-listed o octets past k k' e es list before now now' own so h p more = by_bac
         }
 
 -- an entry with a fault after which reading goes on
-pub fault-listed : (o : DomainName) (octets past : Octets) (k k' : Earlier) (e : PlacedEntry)
+fault-listed : (o : DomainName) (octets past : Octets) (k k' : Earlier) (e : PlacedEntry)
     (es : List PlacedEntry) (list list' : FaultList) (before now : List ResourceRecord)
     (f : EntryFault) (so : ListedSoFar o octets past k (e ∷ es) list before now)
     → HasFault o so.earlier e f → is_last f.fault ≡ false → Passed o so.earlier e.entry k'
@@ -103,7 +103,7 @@ fault-listed o octets past k k' e es list list' before now f so h on p longer =
     }
 
 -- an entry with a fault after which reading ends
-pub last-listed : (o : DomainName) (octets past : Octets) (k : Earlier) (e : PlacedEntry)
+last-listed : (o : DomainName) (octets past : Octets) (k : Earlier) (e : PlacedEntry)
     (es : List PlacedEntry) (list list' : FaultList) (before now : List ResourceRecord)
     (f : EntryFault) (so : ListedSoFar o octets past k (e ∷ es) list before now)
     → HasFault o so.earlier e f → is_last f.fault ≡ true
@@ -116,6 +116,19 @@ last-listed o octets past k e es list list' before now f so h on longer =
       listed = longer;
       grown = so.grown ∙ ap (λ x. before ++ x) (sym (append-nil so.given));
     }
+
+-- an entry with a fault
+pub fault-taken : (o : DomainName) (octets past : Octets) (k k' : Earlier) (e : PlacedEntry)
+    (es : List PlacedEntry) (list list' : FaultList) (before now : List ResourceRecord)
+    (f : EntryFault) (so : ListedSoFar o octets past k (e ∷ es) list before now) (is_over : Bool)
+    → HasFault o so.earlier e f → is_last f.fault ≡ is_over → Passed o so.earlier e.entry k'
+    → IsList list' (so.found ++ f ∷ [])
+    → MatchBool (not is_over) (ListedSoFar o octets past k' es list' before now)
+    (ListsOctets o octets past list' before now)
+fault-taken o octets past k k' e es list list' before now f so true h is p longer =
+    last-listed o octets past k e es list list' before now f so h is longer
+fault-taken o octets past k k' e es list list' before now f so false h is p longer =
+    fault-listed o octets past k k' e es list list' before now f so h is p longer
 
 -- no entry is left
 pub all-listed : (o : DomainName) (octets past : Octets) (k : Earlier) (list : FaultList)

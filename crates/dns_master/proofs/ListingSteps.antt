@@ -23,7 +23,7 @@ use Rattle.dns_master.specs.ScanForm.{shown_place, shown_ending}
 use Rattle.std.proofs.lemmas.List.{drop-map}
 use Rattle.dns_master.proofs.Common.{drop_all, ◌≤◌}
 use Rattle.dns_master.specs.declared.scan.Span.{Span as CodePlace}
-use Rattle.dns_master.specs.declared.judge.Blame.{Blame}
+use Rattle.dns_master.specs.declared.earlier.Blame.{Blame}
 use Rattle.dns_master.specs.declared.scanned.EntryFault.{EntryFault}
 use Rattle.dns_master.specs.declared.scanned.ScannedEntry.{ScannedEntry}
 use Rattle.dns_master.specs.ListingForm.{entry_at, placed, spot_by, shown_fault, EntryScanned, EntryOwn}

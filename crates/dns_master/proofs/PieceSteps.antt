@@ -1,5 +1,9 @@
 -- What a prefix of a text decides holds however the text goes on.
-use Rattle.dns_master.proofs.Common.{◌≡◌, ℕ, ◌+◌, ◌-◌, ◌≤◌, ◌⊎◌, inl, inr, Option, None, Some, Bool, true, false, List, [], ◌++◌, length, length-append, append-nil, append_assoc, refl, sym, ap, ◌∙◌, subst, arith, Octets, DomainName, FileFault, too_long, unwrap_or, false≢true, ResourceRecord, Meaning, records, fault_at, after, EntriesMean, Word, Token, Entry, extent_by, with_end, cut_entries, beginning, stop_at, stop_fault, beginning_decides, tokens_cut, TextMeans, EntryRead, IsWhole, Reads, outcome_of, unended, ReaderMeans, MayFollow, FrontTaken, FrontFaulty, FrontAdded, TextAdded, PieceTaken, AppendsPiece, Reader}
+use Rattle.dns_master.proofs.Common.{◌≡◌, ℕ, ◌-◌, ◌≤◌, ◌⊎◌, inl, inr, Option, None, Some, Bool, true, false, AllGive, Knows, KindGives, kind_of, ended, gives, take_turns, parentheses, List, [], ◌∷◌, ◌++◌, length, length-append, append-nil, append_assoc, refl, sym, ap, ◌∙◌, subst, arith, Octets, DomainName, FileFault, too_long, unwrap_or, false≢true, ResourceRecord, Meaning, records, fault_at, after, EntriesMean, Word, Token, Entry, extent_by, with_end, cut_entries, beginning, stop_at, stop_fault, beginning_decides, tokens_cut, TextMeans, EntryRead, IsWhole, Reads, outcome_of, unended, ReaderMeans, MayFollow, FrontTaken, FrontFaulty, FrontAdded, TextAdded, PieceTaken, AppendsPiece, Reader}
+use Rattle.dns_spec.specs.AllFaults.{LookBack}
+use Rattle.dns_spec.proofs.ZoneTexts.SomeMeaning.{Known, known_more, nothing_known, entry_sure}
+use Rattle.dns_master.specs.EarlierForm.{LooksBack, Passed}
+use Rattle.dns_master.specs.JudgeForm.{KindOwn}
 use Rattle.dns_master.proofs.EntryCuts.{reads-more}
 use Rattle.dns_master.proofs.TextSteps.{over-at_end, nothing-means, past-means}
 use Rattle.dns_master.proofs.EntriesLoop.{after-nil, after-append}
@@ -20,6 +24,31 @@ decided-means o earlier text more goes_on fault line h other =
       at_end = found.1.at_end;
       meant = subst (λ es. EntriesMean o earlier es (fault_at fault line)) found.1.entries found.2;
     }
+
+-- entries without a fault state valid TTLs
+sound-known : (o : DomainName) (earlier : List Entry) → AllGive o earlier → Known earlier
+sound-known o [] h = nothing_known
+sound-known o (e ∷ earlier) h = known_more o earlier h.0.0 e (sound-known o earlier h.1) h.0.1
+
+-- an entry without a lexical fault or another one is taken
+module _ (o : DomainName) (earlier : List Entry) (ps : List Token) (rs : List ResourceRecord)
+    (turns : take_turns false (parentheses ps) ≡ true) (old : Reader)
+    (known : Knows o earlier old) (own : KindOwn o earlier (kind_of (ended ps)) rs) where
+  pub sure-given : KindGives o earlier (kind_of (ended ps)) (gives rs)
+  sure-given = elim own.given [
+    | inl given ↦ given
+    | inr none ↦
+        absurd (entry_sure o earlier (ended ps) (sound-known o earlier known.sound)
+        (λ found. none.0 found.0 (rw turns at found.1)))
+  ]
+
+  pub taken-known : (new : Reader) → Passed o earlier (ended ps) new.earlier
+      → Knows o (ended ps ∷ earlier) new
+  taken-known new p = record { sound = ((rs, sure-given), known.sound); back = by_back p.back }
+    where
+      by_back : LookBack o (ended ps) earlier p.later → LooksBack o (ended ps ∷ earlier) new.earlier
+      by_back (inl (some, is)) = subst (λ es. LooksBack o es new.earlier) is p.known
+      by_back (inr (none, is)) = absurd (own.origin none)
 
 -- a complete entry remains the same however the text goes on
 module _ (goes_on : Option Bool)
@@ -129,10 +158,6 @@ module _ (past : Bool) (first last : Reader) (held : Octets) (before found : Lis
   pub all-too_long : past ≡ true → ReaderMeans first past held (fault_at too_long last.line)
   all-too_long on = all-taken
       (fault_at too_long last.line) (λ o earlier known line. rw on (rw line (past-means o earlier)))
-
-pub counted-more : (n m : ℕ) (found rs grown : List ResourceRecord)
-    → length found ≡ n → m ≡ n + length rs → grown ≡ found ++ rs → length grown ≡ m
-counted-more n m found rs grown count more e = grind (arith, length-append)
 
 -- a piece was read, and the entries that it completes were taken
 pub piece-taken : (old new : Option Octets) (before now : Reader)

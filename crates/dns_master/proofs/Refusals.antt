@@ -1,13 +1,10 @@
 -- Why entries are rejected, and the faults of their file.
-use Rattle.dns_master.proofs.Common.{◌≡◌, ℕ, ◌≤◌, ap, arith, FileFault, too_long, ForFault, OfEntry, code_number, fault_of, IsFaultOn, ReadFault, ReadCode, TooLong, NoMemory}
+use Rattle.dns_master.proofs.Common.{◌≡◌, ℕ, ◌≤◌, ap, arith, FileFault, too_long, ForFault, OfEntry, code_number, fault_of, IsFaultOn, ReadFault, ReadCode, TooLong}
 
 -- a code up to 15 is one that an entry can have, so a property of its fault is enough
 pub refused : (code : ReadCode) (P : FileFault → Type 0)
     → code_number code ≤ 15 → P (fault_of code) → ForFault code P
 refused code P low h = record { told = λ _. h; source = λ e. omega (arith, low, ap code_number e) }
-
-pub no-memory : (code : ReadCode) (P : FileFault → Type 0) → code ≡ NoMemory → ForFault code P
-no-memory code P is = grind (arith, code_number)
 
 -- from one property of a rejected entry's fault to another
 pub ForFault-map : (code : ReadCode) {P Q : FileFault → Type 0}

@@ -95,7 +95,7 @@ token_at before text rest others p =
       };
     }
 
--- the tokens so far, and that reading goes on behind them
+-- the tokens so far, and that reading goes on after them
 pub record ReadSoFar (text : Octets) (before : ℕ) (b : Bool) (rest : Octets)
     (words : List Word) (spots : List Span) : Type 0 where
   pub left : ℕ

@@ -4,6 +4,7 @@ use Rattle.std.specs.Prelude.{IfOk, IsErrAnd, Ok, Err}
 use Rattle.std.proofs.lemmas.Result.{IfOk-weaker}
 use Rattle.dns_name.specs.Counted.{Counted}
 use Rattle.dns_spec.specs.Meaning.{most_records}
+use Rattle.dns_master.proofs.GivenCount.{means-few}
 use Rattle.dns_master.proofs.EntriesLoop.{after-append, looked-means}
 use Rattle.dns_spec.proofs.General.Fronts.{looked_at}
 
@@ -147,6 +148,16 @@ is_read (Some x) (Some y) o m d = record { means = go d.decided; decides = d }
         (λ t. Means o t m) (sym (d.consumed ∙ ap (λ t. d.given ++ t) over ∙ append-nil d.given)) h
     go (inr h) = subst (λ t. Means o t m) (sym d.consumed) (h y)
 
+-- records that are decided are at most 100,000
+decided_few : (old new : Option Octets) (o : DomainName) (rs : List ResourceRecord)
+    → Decides old new o (records rs) → length rs ≤ most_records
+decided_few old new o rs d = go d.decided
+  where
+    go : (IsAtEnd new × Means o d.given (records rs))
+        ⊎ ((more : Octets) → Means o (d.given ++ more) (records rs)) → length rs ≤ most_records
+    go (inl (over, h)) = means-few o d.given rs h
+    go (inr h) = means-few o (d.given ++ []) rs (h [])
+
 no_value : {A E : Type 0} (result : Result A E) (P : E → Type 0) (Q : A → Type 0)
     → IsErrAnd result P → IfOk result Q
 no_value (Ok a) P Q is = absurd is
@@ -176,14 +187,15 @@ module _ {R A : Type 0} (remaining : R → Option Octets) (old new : Counted R) 
       → ((m : Meaning) → ReaderMeans r goes_on held m
       → Decides (remaining old.device) (remaining new.device) o (after before m))
       → IfOk result (λ a. TextAdded r goes_on held before (found a))
-      → IfOk result (λ a. length (found a) ≤ most_records)
       → IfErr result (OfEntry (λ fault line. ReaderMeans r goes_on held (fault_at fault line)))
       → new.failures ≡ old.failures → ReadsFile remaining old new o found result
-  rest_read r goes_on held before decided added few fault same = record {
+  rest_read r goes_on held before decided added fault same = record {
     ok = IfOk-weaker result _ _ (λ a t. is_read _ _ o (records (found a))
         (subst (λ rs. Decides (remaining old.device) (remaining new.device) o (records rs))
         (sym t.grown) (decided (records t.came) t.means))) added;
-    few = few;
+    few = IfOk-weaker result _ _ (λ a t. decided_few _ _ o (found a)
+        (subst (λ rs. Decides (remaining old.device) (remaining new.device) o (records rs))
+        (sym t.grown) (decided (records t.came) t.means))) added;
     err = IfErr-weaker result _ _ (λ f h. record {
       told = λ _ memory. is_read _ _ o (fault_at (fault_of f.code) f.line)
           (decided (fault_at (fault_of f.code) f.line) (h.told memory));

@@ -259,6 +259,14 @@ pub same_sort : (text : Octets) (kept kept' later : List Word) (lines : ℕ) (ou
     (take 1 text) → kept' ≡ kept → kind_of (ended read.tokens) ≡ kind_by_words b (kept' ++ later)
 same_sort text kept kept' later lines outcome b read is same = grind (arith, begins-blank)
 
+-- parentheses take turns in an entry that was read
+pub entry-turns : (text rest : Octets) (ps : List Token) (is_ended is_open : Bool)
+    → Reads false text ps (outcome_of is_ended is_open rest)
+    → take_turns false (parentheses ps) ≡ true
+entry-turns text rest ps true is_open reads = (reads-ended false text ps rest reads).turns
+entry-turns text rest ps false is_open reads =
+    (reads-unended false text ps is_open rest reads).turns
+
 module _ (o : DomainName) (earlier : List Entry)
     (goes_on : Bool) (text rest : Octets) (words : List Word) (lines : ℕ) (is_ended is_open : Bool)
     (read : EntryRead text words lines (outcome_of is_ended is_open rest)) where

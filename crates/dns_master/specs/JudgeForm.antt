@@ -1,7 +1,6 @@
 -- What an entry without a lexical fault gives, or why it is faulty, by what is known of the entries
 -- before it.
 use Rattle.std.specs.Prelude.{⊤, ◌≡◌, ◌≢◌, ◌⊎◌, ℕ, ◌+◌, ◌-◌, Bool, List, [], ◌∷◌, length, Option, None, Some, IsTrue, if◌then◌else◌}
-use Rattle.std.specs.List.{cons_option}
 use Rattle.dns_spec.specs.Names.{DomainName}
 use Rattle.dns_spec.specs.DataText.{Word}
 use Rattle.dns_spec.specs.DataFaults.{DataFaultIs}
@@ -11,9 +10,10 @@ use Rattle.dns_spec.specs.FileFaults.{FileFault, bad_ttl, other_class, bad_type,
 use Rattle.dns_spec.specs.Meaning.{Nothing, EntryKind, EntryMeaning, gives, faulty, KindGives, RecordGives, NameIs, OwnerBefore, Fields, fields, IsNoTtl, is_other_class, is_ttl_word, is_class_word}
 use Rattle.dns_spec.specs.AllFaults.{FaultyWord, NumberIs, ForData, FaultyData}
 use Rattle.dns_master.specs.Codes.{fault_of}
-use Rattle.dns_master.specs.EarlierForm.{LooksBack, OriginAfter}
+use Rattle.dns_master.specs.EarlierForm.{LooksBack, LooksBackTo, OriginAfter}
 use Rattle.dns_master.specs.declared.earlier.Earlier.{Earlier}
-use Rattle.dns_master.specs.declared.judge.Blame.{Blame}
+use Rattle.dns_master.specs.declared.earlier.Blame.{Blame}
+use Rattle.dns_master.specs.declared.earlier.RecordFault.{RecordFault}
 use Rattle.dns_master.specs.declared.read_fault.ReadCode.TheVariants.{NoMemory, BadData}
 use Rattle.dns_rdata.specs.RdataFault as rdata
 use Rattle.dns_rdata.specs.declared.rdata_fault.RdataFault.{RdataFault}
@@ -48,10 +48,6 @@ abbrev pub GivesKind : Earlier → EntryKind → List ResourceRecord → Type 0
 GivesKind k s rs =
     (o : DomainName) (earlier : List Entry) → LooksBack o earlier k → KindOwn o earlier s rs
 
--- the record, if there is one
-abbrev pub at_most_one : Option ResourceRecord → List ResourceRecord
-at_most_one r = cons_option r []
-
 -- what a record with this owner and these fields gives
 abbrev pub OwnedGives : DomainName → List Entry → DomainName → Fields → EntryMeaning → Type 0
 OwnedGives o earlier owner f given = RecordGives o earlier no_owner (λ n. n ≡ owner) f given
@@ -71,16 +67,15 @@ FieldsGive o earlier owner f rs =
 -- the same, whatever entries are known
 abbrev pub FieldsOwn : Earlier → DomainName → Fields → List ResourceRecord → Type 0
 FieldsOwn k owner f rs =
-    (o : DomainName) (earlier : List Entry) → LooksBack o earlier k
-    → FieldsGive o earlier owner f rs
+    (o : DomainName) (earlier : List Entry) (stated : Option DomainName)
+    → LooksBackTo o earlier stated k → FieldsGive o earlier owner f rs
 
--- the number of a fault of fields, and the number of words before the one at fault, from the type
--- on
+-- the number of a fault of fields; `n` words from the type on precede the one at fault in data
 abbrev pub FieldsDetail : DomainName → List Entry → Fields → FileFault → Option ℕ → ℕ → Type 0
 FieldsDetail o earlier f bad_ttl number n = (number ≡ None) × IsNoTtl f.ttl
 FieldsDetail o earlier f other_class number n = (number ≡ None) × IsTrue (is_other_class f.class)
-FieldsDetail o earlier f bad_type number n = (number ≡ None) × (n ≡ 0)
-FieldsDetail o earlier f no_ttl number n = (number ≡ None) × (n ≡ 0)
+FieldsDetail o earlier f bad_type number n = number ≡ None
+FieldsDetail o earlier f no_ttl number n = number ≡ None
 FieldsDetail o earlier f bad_data number n =
     ForData o earlier f.others (λ t ws m. (k : ℕ) × DataFaultIs t ws m k × (number ≡ Some k))
     × ForData o earlier f.others (λ t ws m. FaultyData t ws m n)
@@ -93,42 +88,40 @@ pub record FieldsBlamed (o : DomainName) (earlier : List Entry) (owner : DomainN
   pub given : OwnedGives o earlier owner f (faulty fault)
   pub detail : FieldsDetail o earlier f fault number n
 
-abbrev pub FieldsBlames : Earlier → DomainName → Fields → Blame → Type 0
-FieldsBlames k owner f b =
-    b.code ≢ NoMemory → (o : DomainName) (earlier : List Entry) → LooksBack o earlier k
-    → FieldsBlamed o earlier owner f (fault_of b.code) b.number b.words
+abbrev pub FieldsBlames : Earlier → DomainName → Fields → ℕ → RecordFault → Type 0
+FieldsBlames k owner f n r =
+    r.code ≢ NoMemory → (o : DomainName) (earlier : List Entry) (stated : Option DomainName)
+    → LooksBackTo o earlier stated k
+    → FieldsBlamed o earlier owner f (fault_of r.code) r.number n
 
 -- 1 if the first word fails the test, else 0
 abbrev pub one_unless : (Word → Bool) → List Word → ℕ
 one_unless test [] = 0
 one_unless test (w ∷ ws) = if test w then 0 else 1
 
--- the number of words before the one at fault, of the words after an owner, if `n` words from the
--- type on precede it
+-- the number of words before the one at fault, of the words after an owner; `n` words from the
+-- type on precede the one at fault in data
 abbrev pub words_to : FileFault → List Word → ℕ → ℕ
 words_to bad_ttl ws n = one_unless is_ttl_word ws
 words_to other_class ws n = one_unless is_class_word ws
-words_to fault ws n = (length ws - length (fields ws).others) + n
+words_to bad_data ws n = (length ws - length (fields ws).others) + n
+words_to fault ws n = length ws - length (fields ws).others
 
 -- a record with this owner and these words, which follow `before` words of the entry, has this
 -- fault
 abbrev pub RecordBlames : Earlier → DomainName → ℕ → List Word → Blame → Type 0
 RecordBlames k owner before ws b =
-    b.code ≢ NoMemory → (o : DomainName) (earlier : List Entry) → LooksBack o earlier k
+    b.code ≢ NoMemory → (o : DomainName) (earlier : List Entry) (stated : Option DomainName)
+    → LooksBackTo o earlier stated k
     → (n : ℕ) × FieldsBlamed o earlier owner (fields ws) (fault_of b.code) b.number n
     × (b.words ≡ before + words_to (fault_of b.code) ws n)
 
--- `n` words from the type on precede the one at fault in data with this fault
-pub record DataBlamed (fault : RdataFault) (n : ℕ) (b : Blame) : Type 0 where
-  pub code : b.code ≡ BadData
+-- data has this fault
+pub record DataFaulty (fault : RdataFault) (r : RecordFault) : Type 0 where
+  pub code : r.code ≡ BadData
   pub other : fault ≢ Refused
-  pub number : b.number ≡ Some (rdata.fault_code fault)
-  pub words : b.words ≡ n
+  pub number : r.number ≡ Some (rdata.fault_code fault)
 
--- the blame for the fault of data
-abbrev pub DataBlame : RdataFault → ℕ → Blame → Type 0
-DataBlame fault n b = ((b.code ≡ NoMemory) × (b.words ≡ 0)) ⊎ DataBlamed fault n b
-
--- some entries are known
-abbrev pub IsKnown : Earlier → Type 0
-IsKnown k = (o : DomainName) × ((earlier : List Entry) × LooksBack o earlier k)
+-- the fault of a record whose data has this fault
+abbrev pub ForDataFault : RdataFault → RecordFault → Type 0
+ForDataFault fault r = (r.code ≡ NoMemory) ⊎ DataFaulty fault r

@@ -5,10 +5,8 @@ pub mod WordsForm
 pub mod WordsLeft
 pub mod Steps
 pub mod RecordForm
-pub mod ReaderForm
 pub mod SourceForm
 pub mod PieceForm
-pub mod OwnedBody
 pub mod ScanForm
 pub mod EarlierForm
 pub mod JudgeForm

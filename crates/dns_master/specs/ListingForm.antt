@@ -10,8 +10,7 @@ use Rattle.dns_spec.specs.EntryPlaces as places
 use Rattle.dns_spec.specs.AllFaults.{first_place, HasFault, GivesOwn, EntriesGive, most_listed}
 use Rattle.dns_spec.specs.AllFaults as all
 use Rattle.dns_master.specs.Codes.{fault_of}
-use Rattle.dns_master.specs.EarlierForm.{LooksBack, Passed}
-use Rattle.dns_master.specs.JudgeForm.{at_most_one}
+use Rattle.dns_master.specs.EarlierForm.{LooksBack, Passed, handed}
 use Rattle.dns_master.specs.ScanForm.{shown_place, ScansEntry}
 use Rattle.dns_master.specs.declared.earlier.Earlier.{Earlier}
 use Rattle.dns_master.specs.declared.scanned.EntryFault.{EntryFault}
@@ -58,12 +57,12 @@ pub record EntryOwn (o : DomainName) (earlier : List Entry) (e : Entry)
   pub given : GivesOwn o earlier e rs
   pub origin : Nothing (OriginIs o (e ∷ earlier)) → ⊥
 
--- what an entry gives, or its fault, whatever entries are known
-abbrev pub Judges : Earlier → PlacedEntry → Judged → Type 0
-Judges k e (Gives one) =
+-- what an entry gives, or its fault, whatever entries are known; its record, if any, is `last`
+abbrev pub Judges : Earlier → PlacedEntry → ResourceRecord → Judged → Type 0
+Judges k e last (Gives is_record) =
     (o : DomainName) (earlier : List Entry) → LooksBack o earlier k
-    → EntryOwn o earlier e.entry (at_most_one one)
-Judges k e (Faulty f) =
+    → EntryOwn o earlier e.entry (handed is_record last)
+Judges k e last (Faulty f) =
     (o : DomainName) (earlier : List Entry) → LooksBack o earlier k
     → HasFault o earlier e (shown_fault f)
 

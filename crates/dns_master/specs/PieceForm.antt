@@ -1,14 +1,25 @@
 -- What the entries at the front of a text mean, whatever follows the text.
-use Rattle.std.specs.Prelude.{⊤, ◌≡◌, ℕ, ◌+◌, ◌≤◌, ◌<◌, Bool, true, false, List, [], ◌++◌, length, Option, None, MatchOption}
+use Rattle.std.specs.Prelude.{⊤, ◌≡◌, ℕ, ◌+◌, ◌≤◌, ◌<◌, Bool, true, false, List, [], ◌∷◌, ◌++◌, length, Option, None, MatchOption}
 use Rattle.std.specs.Io.KnownBytes.{Consumes, IsAtEnd}
 use Rattle.dns_spec.specs.Names.{Octets, DomainName}
 use Rattle.dns_spec.specs.Records.{ResourceRecord}
 use Rattle.dns_spec.specs.FileFaults.{FileFault}
 use Rattle.dns_spec.specs.ZoneText.{Entry}
-use Rattle.dns_spec.specs.Meaning.{Meaning, records, fault_at, after, line_after}
+use Rattle.dns_spec.specs.Meaning.{Meaning, records, fault_at, after, line_after, KindGives, gives, kind_of}
 use Rattle.dns_master.specs.EntryForm.{TextMeans}
-use Rattle.dns_master.specs.ReaderForm.{Knows}
-use Rattle.dns_master.specs.declared.state.Reader.{Reader}
+use Rattle.dns_master.specs.EarlierForm.{LooksBack}
+use Rattle.dns_master.specs.declared.reader.Reader.{Reader}
+
+-- the earlier entries have no fault
+abbrev pub AllGive : DomainName → List Entry → Type 0
+AllGive o [] = ⊤
+AllGive o (e ∷ earlier) =
+    ((rs : List ResourceRecord) × KindGives o earlier (kind_of e) (gives rs)) × AllGive o earlier
+
+-- what the reader knows fits the earlier entries, which have no fault
+pub record Knows (o : DomainName) (earlier : List Entry) (r : Reader) : Type 0 where
+  pub sound : AllGive o earlier
+  pub back : LooksBack o earlier r.earlier
 
 -- the meaning of a text after the entries that the reader knows
 abbrev pub ReaderMeans : Reader → Bool → Octets → Meaning → Type 0
@@ -41,7 +52,6 @@ FrontFaulty goes_on r text fault line =
 pub record TakesFirst (goes_on : Option Bool) (old : Reader) (text : Octets)
     (rs : List ResourceRecord) (new : Reader) (rest : Octets) : Type 0 where
   pub taken : FrontTaken goes_on old text rs new rest
-  pub counted : new.count ≡ old.count + length rs
   pub shorter : length rest < length text
   pub lines : new.line + length rest ≤ old.line + length text
 

@@ -1,8 +1,11 @@
-//! What is known of the entries so far, faulty or not.
-ghost use Rattle.std.specs.Prelude.{◌≡◌};
+//! What is known of the entries so far, faulty or not, and why one is faulty.
+ghost use Rattle.std.specs.Prelude.{◌≡◌, ◌≢◌, ◌≤◌};
 ghost use Rattle.std.specs.Option.{ForSome};
 ghost use Rattle.dns_spec.specs.Names.{folded};
+ghost use Rattle.dns_master.specs.declared.read_fault.ReadCode.TheVariants.{SourceFailed};
 
+use crate::read_fault::ReadCode;
+use crate::record::Record;
 use dns_name::Name;
 
 /// What later entries need of the entries so far, faulty or not.
@@ -10,13 +13,37 @@ use dns_name::Name;
 pub(crate) struct Earlier {
     /// The current origin.
     pub(crate) origin: Name,
-    /// The owner that was stated last, in lower case. `None` if none was stated, or it is invalid.
-    pub(crate) owner: Option<Name>,
     /// The TTL of the last `$TTL`; `Some(None)` if it is invalid.
     pub(crate) default_ttl: Option<Option<u32>>,
     /// The TTL of the last record that states one; `Some(None)` if it is invalid.
     pub(crate) stated_ttl: Option<Option<u32>>,
-    /// The number of records so far, faulty or not.
-    pub(crate) count: usize,
-    ghost low: { ForSome owner (λ n. folded n ≡ n) },
+    /// One more than the number of records that may follow, or 0 after too many. Each record so far
+    /// counts, faulty or not.
+    pub(crate) records_left: usize,
+    /// Whether an owner was stated, and the last one is valid.
+    pub(crate) has_owner: bool,
+    /// The last record without a fault, but with the owner that was stated last, if it is valid.
+    /// The next record is read into this field, its owner first.
+    pub(crate) last: Record,
+    ghost default_short: { ForSome default_ttl (λ t. ForSome t (λ n. n ≤ 2147483647)) },
+    ghost stated_short: { ForSome stated_ttl (λ t. ForSome t (λ n. n ≤ 2147483647)) },
+    ghost low: { folded last.owner ≡ last.owner },
+}
+
+/// Why an entry is faulty: the code; the number of an owner's or of data's fault; and the number of
+/// words of the entry before the one at fault, if a word is at fault.
+#[derive(Clone, Copy, Debug)]
+pub(crate) struct Blame {
+    pub(crate) code: ReadCode,
+    pub(crate) number: Option<u8>,
+    pub(crate) words: usize,
+    ghost source: { code ≢ SourceFailed },
+}
+
+/// Why a record is faulty, apart from its owner: the code, and the number of the data's fault.
+#[derive(Clone, Copy, Debug)]
+pub(crate) struct RecordFault {
+    pub(crate) code: ReadCode,
+    pub(crate) number: Option<u8>,
+    ghost source: { code ≢ SourceFailed },
 }

@@ -1,14 +1,13 @@
 //! Reads the fields between the owner and the data of a record (RFC 1035 5.1).
-ghost use Rattle.std.specs.Prelude.{◌≡◌, [], ◌∷◌, drop, codes, MatchOption, MatchResult};
+ghost use Rattle.std.specs.Prelude.{◌≡◌, [], ◌∷◌, drop, codes, MatchOption};
 ghost use Rattle.std.specs.List.{list_any};
 ghost use Rattle.std.specs.Option.{option_copied};
-ghost use Rattle.dns_spec.specs.Meaning.{Nothing, TypeIs, fields, class_after, ttl_after, is_ttl_word, is_class_word, is_word, is_other_class, IsNoTtl};
-ghost use Rattle.dns_master.specs.RecordForm.{TtlOf, NamedType};
+ghost use Rattle.dns_spec.specs.Meaning.{Nothing, TypeIs, fields, class_after, ttl_after, is_ttl_word, is_class_word, is_word, is_other_class};
+ghost use Rattle.dns_master.specs.RecordForm.{NamedType};
 ghost use Rattle.dns_master.specs.WordsLeft.{words_left};
 
 use crate::entry_words::EntryWords;
-use crate::read_fault::ReadCode;
-use crate::words::{is_word, read_ttl};
+use crate::words::is_word;
 use dns_rdata::{RType, Word, Words};
 use std::marker::Model;
 
@@ -50,6 +49,7 @@ impl<'a, 'w> Fields<'a, 'w> {
         }
     }
 
+    #[inline(always)]
     fn after_ttl(ttl: Word<'w>, words: EntryWords<'a, 'w>) -> Fields<'a, 'w>
         ensures { result ≡ class_after ttl.entry (words_left words.entry) }
     {
@@ -61,6 +61,7 @@ impl<'a, 'w> Fields<'a, 'w> {
         Fields { ttl, class, others }
     }
 
+    #[inline(always)]
     fn after_class(class: Word<'w>, words: EntryWords<'a, 'w>) -> Fields<'a, 'w>
         ensures { result ≡ ttl_after class.entry (words_left words.entry) }
     {
@@ -99,18 +100,6 @@ fn is_class_name(raw: &[u8]) -> bool
         (codes "in" ∷ codes "ch" ∷ codes "cs" ∷ codes "hs" ∷ []) }
 {
     is_word(b"in", raw) || is_word(b"ch", raw) || is_word(b"cs", raw) || is_word(b"hs", raw)
-}
-
-/// The TTL that the word states, or `None` if there is no word. Fails with `BadTtl` if the TTL is
-/// invalid.
-pub(crate) fn stated_ttl(stated: Option<&Word<'_>>) -> Result<Option<u32>, ReadCode>
-    ensures { MatchResult result (λ ttl. TtlOf (option_copied stated.entry) ttl)
-        (λ fault. (fault ≡ ReadCode.BadTtl) × IsNoTtl (option_copied stated.entry)) }
-{
-    match stated {
-        Some(word) => Ok(Some(read_ttl(word).ok_or(ReadCode::BadTtl)?)),
-        None => Ok(None),
-    }
 }
 
 pub(crate) fn is_other_class(stated: Option<&Word<'_>>) -> bool

@@ -1,14 +1,12 @@
 //! Reads zone files (RFC 1035 section 5) into records.
 #![tactic(auto)]
 
-mod directive;
+mod blame;
 mod earlier;
 mod entry;
 mod entry_words;
 mod fields;
-mod judge;
 mod listing;
-mod passing;
 mod pieces;
 mod read_fault;
 mod reader;
@@ -18,7 +16,7 @@ mod run;
 mod scan;
 mod scanned;
 mod source;
-mod state;
+mod take;
 mod token;
 mod words;
 

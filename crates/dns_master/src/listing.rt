@@ -3,13 +3,11 @@ ghost use Rattle.std.specs.Prelude.{◌≡◌, ◌-◌, ◌^◌, ◌<◌, ◌≤
 ghost use Rattle.dns_spec.specs.AllFaults as all;
 ghost use Rattle.dns_master.specs.Codes.{failures_after_read, fault_of};
 ghost use Rattle.dns_master.specs.ListingForm.{EntryScanned, shown_fault};
-ghost use Rattle.dns_master.specs.JudgeForm.{IsKnown, at_most_one};
 ghost use Rattle.dns_master.specs.EarlierForm.{LooksBack};
 ghost use Rattle.dns_master.specs.FaultListForm.{IsList, ListsOctets, ListsText, ReadsOctets, TakesEntry};
 
 use crate::earlier::Earlier;
 use crate::read_fault::{ReadCode, ReadFault};
-use crate::record::Record;
 use crate::record_collection::RecordCollection;
 use crate::scan::{scan, text_after};
 use crate::scanned::{EntryFault, Judged, ScannedEntry};
@@ -149,11 +147,10 @@ impl Listing {
     fn none(alloc: Global, origin: &Name) -> Listing
         ensures list { IsList result.list [] }
         ensures known { LooksBack origin.now [] result.earlier }
-        ensures none { result.earlier.count ≡ 0 }
     {
         Listing {
             list: FaultList::none(alloc),
-            earlier: Earlier::none(origin),
+            earlier: Earlier::none(alloc, origin),
         }
     }
 
@@ -165,25 +162,20 @@ impl Listing {
         buffers: &mut DataBuffers,
         collection: &mut C,
     ) -> Result<bool, AllocError>
-        requires scanned { EntryScanned entry.now }
-        requires known { IsKnown self.old.earlier }
-        requires count { self.old.earlier.count < 2 ^ 63 }
-        ensures taken { IfOk result (λ goes_on. TakesEntry self.old entry.now
+        requires { EntryScanned entry.now }
+        ensures { IfOk result (λ goes_on. TakesEntry self.old entry.now
             (C.records collection.old) self.new (C.records collection.new) goes_on) }
-        ensures count { IfOk result (λ _.
-            self.new.earlier.count ≤ self.old.earlier.count + 1) }
     {
-        match entry.judge(&self.earlier, buffers)? {
-            Judged::Gives(one) => add_given(one, collection)?,
+        match entry.take(&mut self.earlier, buffers)? {
+            Judged::Gives(is_record) => {
+                self.earlier.add_last(is_record, collection)?;
+                Ok(true)
+            }
             Judged::Faulty(fault) => {
                 self.list.add(fault)?;
-                if ends_list(fault.code) {
-                    return Ok(false);
-                }
+                Ok(!ends_list(fault.code))
             }
         }
-        entry.pass(&mut self.earlier);
-        Ok(true)
     }
 }
 
@@ -192,13 +184,4 @@ fn ends_list(code: ReadCode) -> bool
     ensures { result ≡ all.is_last (fault_of code) }
 {
     code.number() >= 14
-}
-
-fn add_given<C: RecordCollection>(one: Option<Record>, collection: &mut C) -> Result<(), AllocError>
-    ensures { OnOk result (C.records collection.new ≡ C.records collection.old ++ at_most_one one) }
-{
-    if let Some(record) = one {
-        collection.add(&record)?;
-    }
-    Ok(())
 }

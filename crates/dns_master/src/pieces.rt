@@ -1,17 +1,16 @@
 //! Reads a zone file piece by piece.
 ghost use Rattle.std.specs.Prelude.{◌≡◌, ◌≢◌, ◌+◌, ◌-◌, ◌^◌, ◌<◌, ◌≤◌, ◌++◌, ◌⊎◌, [], length, IfOk, IfErr, OnOk, None};
-ghost use Rattle.dns_spec.specs.Meaning.{fault_at, most_records};
+ghost use Rattle.dns_spec.specs.Meaning.{fault_at};
 ghost use Rattle.dns_master.specs.Codes.{OfEntry, OfFile, failures_after_read};
-ghost use Rattle.dns_master.specs.ReaderForm.{Knows, handed};
-ghost use Rattle.dns_master.specs.PieceForm.{FrontFaulty, FrontAdded, PieceTaken, PieceFaulty, ReaderMeans, TextAdded};
+ghost use Rattle.dns_master.specs.PieceForm.{Knows, FrontFaulty, FrontAdded, PieceTaken, PieceFaulty, ReaderMeans, TextAdded};
 
+use crate::earlier::Earlier;
 use crate::read_fault::{ReadCode, ReadFault, entry_fault};
-use crate::record::Record;
+use crate::reader::Reader;
 use crate::record_collection::RecordCollection;
 use crate::source::{MOST_FILE_OCTETS, PIECE, append_piece};
-use crate::state::Reader;
 use dns_name::{Name, Tally};
-use dns_rdata::{DataBuffers, RType, Rdata};
+use dns_rdata::DataBuffers;
 use std::alloc::Global;
 use std::io::Read;
 
@@ -34,23 +33,12 @@ impl PieceReader {
     pub(crate) fn new(alloc: Global, origin: &Name) -> PieceReader
         ensures known { Knows origin.now [] result.reader }
         ensures line { result.reader.line ≡ 1 }
-        ensures none { result.reader.count ≡ 0 }
         ensures nothing { result.held.items ≡ [] }
         ensures all { result.left ≡ 16777216 }
     {
-        let none = Record {
-            owner: Name::root(),
-            ttl: 0,
-            rtype: RType(0),
-            rdata: Rdata::empty(alloc),
-        };
         let reader = Reader {
-            origin: origin.copied(),
-            default_ttl: None,
-            stated_ttl: None,
+            earlier: Earlier::none(alloc, origin),
             line: 1,
-            last: none,
-            count: 0,
         };
         PieceReader {
             alloc,
@@ -75,12 +63,10 @@ impl PieceReader {
         requires piece { length piece.old ≡ 4096 }
         requires fits { self.old.reader.line + length self.old.held.items + self.old.left
             ≤ 16777217 }
-        requires count { length (C.records collection.old) ≡ self.old.reader.count }
         ensures ok { IfOk result (λ more. PieceTaken (R.remaining source.old.device)
             (R.remaining source.new.device) self.old.reader self.old.held.items self.old.left
             self.new.reader self.new.held.items self.new.left more (C.records collection.old)
             (C.records collection.new)) }
-        ensures count { OnOk result (length (C.records collection.new) ≡ self.new.reader.count) }
         ensures fits { OnOk result (self.new.reader.line + length self.new.held.items
             + self.new.left ≤ 16777217) }
         ensures same { length piece.new ≡ length piece.old }
@@ -103,12 +89,10 @@ impl PieceReader {
 
     // Adds the records of the complete entries in the held octets.
     fn take_front<C: RecordCollection>(&mut self, collection: &mut C) -> Result<(), ReadFault>
-        requires count { length (C.records collection.old) ≡ self.old.reader.count }
         requires fits { self.old.reader.line + length self.old.held.items ≤ 16777217 }
         ensures ok { OnOk result (FrontAdded None self.old.reader self.old.held.items
             self.new.reader self.new.held.items (C.records collection.old)
             (C.records collection.new)) }
-        ensures count { OnOk result (length (C.records collection.new) ≡ self.new.reader.count) }
         ensures left { self.new.left ≡ self.old.left }
         ensures fits { OnOk result (self.new.reader.line + length self.new.held.items
             ≤ self.old.reader.line + length self.old.held.items) }
@@ -139,11 +123,9 @@ impl PieceReader {
         goes_on: bool,
         collection: &mut C,
     ) -> Result<(), ReadFault>
-        requires count { length (C.records collection.old) ≡ self.reader.count }
         requires fits { self.reader.line + length self.held.items ≤ 16777217 }
         ensures ok { OnOk result (TextAdded self.reader goes_on self.held.items
             (C.records collection.old) (C.records collection.new)) }
-        ensures few { OnOk result (length (C.records collection.new) ≤ most_records) }
         ensures err { IfErr result (OfEntry (λ fault line.
             ReaderMeans self.reader goes_on self.held.items (fault_at fault line))) }
     {
@@ -174,10 +156,8 @@ fn take_entries<'a, C: RecordCollection>(
     collection: &mut C,
 ) -> Result<&'a [u8], ReadFault>
     requires fits { reader.old.line + length text.now ≤ 16777217 }
-    requires count { length (C.records collection.old) ≡ reader.old.count }
     ensures ok { IfOk result (λ rest. FrontAdded goes_on reader.old text.now reader.new rest.now
         (C.records collection.old) (C.records collection.new)) }
-    ensures count { OnOk result (length (C.records collection.new) ≡ reader.new.count) }
     ensures lines { IfOk result (λ rest. reader.new.line + length rest.now
         ≤ reader.old.line + length text.now) }
     ensures same { IfOk result (λ rest. length text.now ≤ length rest.now
@@ -194,24 +174,8 @@ fn take_entries<'a, C: RecordCollection>(
             Ok(None) => break,
             Err(code) => return Err(entry_fault(code, line)),
         };
-        add_taken(is_record, reader, collection)?;
+        reader.earlier.add_last(is_record, collection)?;
         rest = others;
     }
     Ok(rest)
-}
-
-// Adds the reader's last record to the collection, if the entry was a record.
-fn add_taken<C: RecordCollection>(
-    is_record: bool,
-    reader: &Reader,
-    collection: &mut C,
-) -> Result<(), ReadFault>
-    ensures ok { OnOk result (C.records collection.new
-        ≡ C.records collection.old ++ handed is_record reader.now.last) }
-    ensures err { IfErr result (λ f. (f.code ≡ ReadCode.NoMemory) × (f.line ≡ 0)) }
-{
-    if is_record {
-        collection.add(&reader.last)?;
-    }
-    Ok(())
 }

@@ -2,7 +2,6 @@
 ghost use Rattle.std.specs.Prelude.{◌≡◌};
 ghost use Rattle.dns_master.specs.Codes.{IsFaultOn, code_number};
 
-use dns_rdata::RdataFault;
 use std::alloc::{AllocError, AllocFailed};
 
 /// Why a zone file is rejected, by code.
@@ -61,23 +60,6 @@ impl<T: Drop> From<AllocFailed<T>> for ReadCode {
 
     fn from(_refused: AllocFailed<T>) -> ReadCode {
         ReadCode::NoMemory
-    }
-}
-
-/// All invalid data has one code, whatever is wrong with it.
-impl From<RdataFault> for ReadCode {
-    ghost use Rattle.std.specs.Prelude.{◌≢◌, ◌⊎◌};
-    ghost use Rattle.dns_rdata.specs.declared.rdata_fault.RdataFault.{RdataFault};
-    ghost use Rattle.dns_master.specs.declared.read_fault.ReadCode.{ReadCode};
-
-    ghost from_gives = { λ fault code. ((fault ≡ RdataFault.NoMemory) × (code ≡ ReadCode.NoMemory))
-        ⊎ ((fault ≢ RdataFault.NoMemory) × (code ≡ ReadCode.BadData)) };
-
-    fn from(fault: RdataFault) -> ReadCode {
-        match fault {
-            RdataFault::NoMemory => ReadCode::NoMemory,
-            _ => ReadCode::BadData,
-        }
     }
 }
 

@@ -39,14 +39,6 @@ impl Model for Record {
     ghost invariant = { λ r. IsKept r.owner r.ttl r.rtype.0 r.rdata };
 }
 
-/// A record without its owner.
-#[derive(Drop)]
-pub(crate) struct RecordBody {
-    pub(crate) ttl: u32,
-    pub(crate) rtype: RType,
-    pub(crate) rdata: Rdata,
-}
-
 impl Record {
     /// Sets the owner to the name that an unquoted word spells, relative to the origin, in lower
     /// case. Returns false if the word is quoted or spells no name; the owner is then unspecified.

@@ -6,16 +6,13 @@ ghost use Rattle.dns_spec.specs.ZoneText.{extent_by, is_blank};
 ghost use Rattle.dns_spec.specs.EntryPlaces.{empty_place, end_octets, ending_fault, fault_place};
 ghost use Rattle.dns_spec.specs.AllFaults.{first_place};
 ghost use Rattle.dns_master.specs.Codes.{fault_of};
-ghost use Rattle.dns_master.specs.JudgeForm.{IsKnown};
 ghost use Rattle.dns_master.specs.ScanForm.{shown_ending, shown_place};
 ghost use Rattle.dns_master.specs.ListingForm.{EntryScanned, Judges, PassesEntry, placed, spot_by};
 ghost use Rattle.dns_master.specs.WordsLeft.{words_left};
 
-use crate::earlier::Earlier;
+use crate::earlier::{Blame, Earlier};
 use crate::entry_words::{EntryWords, LaterWords};
-use crate::judge::Blame;
 use crate::read_fault::ReadCode;
-use crate::record::Record;
 use crate::run::is_blank;
 use crate::scan::{EntryScan, Span, ending_fault, stop_place};
 use dns_rdata::{DataBuffers, Word};
@@ -35,10 +32,9 @@ pub struct EntryFault {
     pub entry: usize,
 }
 
-/// What an entry gives: a record or none, or a fault.
-#[derive(Drop)]
+/// What an entry gives: whether it gives a record, or its fault.
 pub(crate) enum Judged {
-    Gives(Option<Record>),
+    Gives(bool),
     Faulty(EntryFault),
 }
 
@@ -59,33 +55,25 @@ pub(crate) struct ScannedEntry<'a, 'w> {
 }
 
 impl ScannedEntry<'_, '_> {
-    /// The record of the entry, or its fault.
-    pub(crate) fn judge(
+    /// Takes the entry. A record that it gives is then `earlier.last`.
+    pub(crate) fn take(
         &self,
-        earlier: &Earlier,
+        earlier: &mut Earlier,
         buffers: &mut DataBuffers,
     ) -> Result<Judged, AllocError>
         requires scanned { EntryScanned self.now }
-        requires known { IsKnown earlier.now }
-        ensures { IfOk result (Judges earlier.now (placed self.now)) }
+        ensures passed { PassesEntry earlier.old self.now earlier.new }
+        ensures taken { IfOk result (Judges earlier.old (placed self.now) earlier.new.last) }
     {
+        let taken = earlier.take(self.is_blank_led(), all_kept(self.words), buffers);
         if let Some(code) = self.lexical_code() {
             return Ok(Judged::Faulty(self.lexical_fault(code)));
         }
-        match earlier.judge(self.is_blank_led(), all_kept(self.words), buffers) {
-            Ok(one) => Ok(Judged::Gives(one)),
+        match taken {
+            Ok(is_record) => Ok(Judged::Gives(is_record)),
             Err(blame) if blame.code == ReadCode::NoMemory => Err(AllocError),
             Err(blame) => Ok(Judged::Faulty(self.fault_by(blame))),
         }
-    }
-
-    /// Passes the entry.
-    pub(crate) fn pass(&self, earlier: &mut Earlier)
-        requires { earlier.old.count < 2 ^ 63 }
-        ensures passed { PassesEntry earlier.old self.now earlier.new }
-        ensures count { earlier.new.count ≤ earlier.old.count + 1 }
-    {
-        earlier.pass(self.is_blank_led(), all_kept(self.words));
     }
 
     fn is_blank_led(&self) -> bool

@@ -1,5 +1,6 @@
 //! Single words of an entry.
-ghost use Rattle.std.specs.Prelude.{◌≡◌, ◌↔◌, ℕ, Some};
+ghost use Rattle.std.specs.Prelude.{◌≡◌, ◌↔◌, ◌≤◌, ℕ, Some};
+ghost use Rattle.std.specs.Option.{ForSome};
 ghost use Rattle.dns_spec.specs.Meaning.{TtlSays, is_word};
 ghost use Rattle.dns_spec.specs.TypeText.{text_in_lower_case};
 
@@ -11,7 +12,8 @@ const MOST_TTL: u32 = 2_147_483_647;
 /// The TTL that an unquoted word spells: seconds in decimal, without leading zeros, at most
 /// 2147483647. `None` for any other word.
 pub(crate) fn read_ttl(word: &Word<'_>) -> Option<u32>
-    ensures { (n : ℕ) → (result ≡ Some n) ↔ TtlSays word.now n }
+    ensures value { (n : ℕ) → (result ≡ Some n) ↔ TtlSays word.now n }
+    ensures short { ForSome result (λ n. n ≤ 2147483647) }
 {
     if word.quoted {
         return None;

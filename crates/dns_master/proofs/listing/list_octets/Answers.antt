@@ -3,8 +3,8 @@ use Rattle.dns_spec.specs.EntryPlaces.{text_after}
 use Rattle.dns_master.proofs.ListingLoop.{first-entry, entries-left, all-listed, all-taken, gone-on, ended}
 use Rattle.dns_master.proofs.listing.list_octets.Goals as goal
 
-pub take-requires-clause-scanned : goal.take-requires-clause-scanned
-take-requires-clause-scanned g c = record {
+pub take-requires : goal.take-requires
+take-requires g c = record {
   scanned = search rules;
   short = c.entries.invariant.short;
   few = search rules;
@@ -13,7 +13,7 @@ take-requires-clause-scanned g c = record {
 
 pub returns-then-not-branch : goal.returns-then-not-branch
 returns-then-not-branch g c =
-    ended _ _ c.in_ok-take.field-0 (search rules) (c.in_ok-take.ensures.taken _ _ _ _ _
+    ended _ _ c.in_ok-take.field-0 (search rules) (c.in_ok-take.ensures _ _ _ _ _
     (first-entry _ _ _ _ _ _ _ c.entries.left c.entries.rest.now c.entries-test.true
     c.entries.invariant.listed))
 
@@ -21,26 +21,22 @@ pub entries-preserved : goal.entries-preserved
 entries-preserved g c =
     let left = c.entries.left in
     let text = c.entries.rest.now in
-    let so = gone-on _ _ c.in_ok-take.field-0 (search rules) (c.in_ok-take.ensures.taken _ _ _ _ _
+    let so = gone-on _ _ c.in_ok-take.field-0 (search rules) (c.in_ok-take.ensures _ _ _ _ _
     (first-entry _ _ _ _ _ _ _ left text c.entries-test.true c.entries.invariant.listed)) in
     let short = c.in_ok-read.ensures.short in
     let shorter = c.in-Some.ensures.short in
     let within = c.entries.invariant.short in
-    let count = c.in_ok-take.ensures.count in
-    let counted = c.entries.invariant.count in
-    let some = c.entries-test.true in
     record {
       listed = entries-left _ _ _ _ _ _ _ (left - 1) text (Some c.in-Some.after.now)
           (ap text_after c.in_ok-read.ensures.ending_is ∙ c.in-Some.ensures.value) so;
       short = omega (arith, short, shorter, within);
-      count = omega (arith, count, counted, some);
     }
 
 pub returns-in-None : goal.returns-in-None
 returns-in-None g c =
     let left = c.entries.left in
     let text = c.entries.rest.now in
-    let so = gone-on _ _ c.in_ok-take.field-0 (search rules) (c.in_ok-take.ensures.taken _ _ _ _ _
+    let so = gone-on _ _ c.in_ok-take.field-0 (search rules) (c.in_ok-take.ensures _ _ _ _ _
     (first-entry _ _ _ _ _ _ _ left text c.entries-test.true c.entries.invariant.listed)) in
     all-listed _ _ _ _ _ _ _ (entries-left _ _ _ _ _ _ _ (left - 1) text None
     (ap text_after c.in_ok-read.ensures.ending_is ∙ c.in-None.ensures.value) so)

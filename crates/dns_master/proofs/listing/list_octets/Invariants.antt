@@ -1,4 +1,4 @@
-use Rattle.dns_master.proofs.Common.{◌+◌, ◌≤◌, length}
+use Rattle.dns_master.proofs.Common.{◌≤◌, length}
 use Rattle.dns_spec.specs.EntryPlaces.{entries_from}
 use Rattle.dns_master.specs.FaultListForm.{ListedSoFar}
 use Rattle.dns_master.proofs.listing.list_octets.Given as goal
@@ -11,7 +11,6 @@ invariant-entries g l = record {
       (g.C.RecordCollection.records l.initial.collection) (g.C.RecordCollection.records
       l.collection);
   short : length l.rest ≤ length l.octets;
-  count : l.listing.earlier.count + l.left ≤ 1 + length l.octets;
 }
 
 abbrev pub decreases-entries : goal.decreases-entries

@@ -1,5 +1,5 @@
 use Rattle.dns_master.proofs.Common.{rules, ◌≤◌, length, arith}
-use Rattle.dns_master.proofs.PieceSteps.{nothing-added, more-added, faulty-after, counted-more}
+use Rattle.dns_master.proofs.PieceSteps.{nothing-added, more-added, faulty-after}
 use Rattle.dns_master.proofs.Refusals.{OfEntry-map, entry-told}
 use Rattle.dns_master.proofs.pieces.take_entries.Goals as goal
 
@@ -24,13 +24,9 @@ entries-preserved g c =
           c.args.text.now c.entries.rest.now (g.C.RecordCollection.records c.args.collection.now)
           (g.C.RecordCollection.records c.entries.collection) c.entries.invariant.added
           c.take_entry.new.self
-          c.in-Ok-Some.taken.1.now _ (g.C.RecordCollection.records c.add_taken.new.collection)
+          c.in-Ok-Some.taken.1.now _ (g.C.RecordCollection.records c.add_last.new.collection)
           next.taken
-          c.in_ok-add_taken.ensures.ok;
-      count = counted-more c.entries.reader.count c.take_entry.new.self.count
-          (g.C.RecordCollection.records c.entries.collection) _ (g.C.RecordCollection.records
-          c.add_taken.new.collection)
-          c.entries.invariant.count next.counted c.in_ok-add_taken.ensures.ok;
+          c.in_ok-add_last.ensures;
       bound = omega (arith, next.lines, c.entries.invariant.bound);
       short = omega (arith, next.shorter, less);
       same = λ h. absurd (omega (arith, next.shorter, less, h));

@@ -7,7 +7,6 @@ invariant-entries g l = record {
   added : FrontAdded l.goes_on l.initial.reader l.text l.reader l.rest
       (g.C.RecordCollection.records l.initial.collection) (g.C.RecordCollection.records
       l.collection);
-  count : length (g.C.RecordCollection.records l.collection) ≡ l.reader.count;
   bound : l.reader.line + length l.rest ≤ l.initial.reader.line + length l.text;
   short : length l.rest ≤ length l.text;
   same : length l.text ≤ length l.rest → l.rest ≡ l.text;

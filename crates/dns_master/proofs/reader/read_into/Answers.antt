@@ -14,7 +14,7 @@ returns-then-not-branch g c =
     let so = piece-given _ _ _ _ _ _ _ _ c.pieces.invariant.so_far _ _ _ _ _ piece in
     rest_read _ _ _ _ _ c.finish.result _ _ _ _
     (λ m h. end-given _ _ None _ _ _ _ _ so m (piece.over (search rules)).1 h)
-    c.finish.ensures.ok c.finish.ensures.few c.finish.ensures.err (search rules)
+    c.finish.ensures.ok c.finish.ensures.err (search rules)
 
 pub pieces-preserved : goal.pieces-preserved
 pieces-preserved g c = search (rules, piece-given)
@@ -23,5 +23,5 @@ pub returns-in-Ok : goal.returns-in-Ok
 returns-in-Ok g c =
     rest_read _ _ _ _ _ c.finish-in-Ok.result _ _ _ _
     (λ m h. limit-given _ _ _ _ _ _ _ _ c.pieces.invariant.so_far _ m (search rules)
-    c.in-Ok.ensures.ok h) c.finish-in-Ok.ensures.ok c.finish-in-Ok.ensures.few
+    c.in-Ok.ensures.ok h) c.finish-in-Ok.ensures.ok
     c.finish-in-Ok.ensures.err (search rules)

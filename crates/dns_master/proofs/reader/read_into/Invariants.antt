@@ -9,7 +9,6 @@ invariant-pieces g l = record {
       (g.R.Read.remaining l.source.device) l.origin l.reading.reader l.reading.held.items
       l.reading.left
       (g.C.RecordCollection.records l.collection);
-  count : length (g.C.RecordCollection.records l.collection) ≡ l.reading.reader.count;
   fits : l.reading.reader.line + length l.reading.held.items + l.reading.left ≤ 16777217;
   counted : l.source.failures ≡ l.initial.source.failures;
 }

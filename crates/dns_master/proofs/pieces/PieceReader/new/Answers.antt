@@ -1,5 +1,0 @@
-use Rattle.dns_master.proofs.RecordSteps.{no_data-kept}
-use Rattle.dns_master.proofs.pieces.PieceReader.new.Goals as goal
-
-pub invariant_of-none : goal.invariant_of-none
-invariant_of-none c = rw (c.root.ensures, c.empty.ensures) no_data-kept

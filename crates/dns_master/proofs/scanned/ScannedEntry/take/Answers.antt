@@ -1,0 +1,55 @@
+use Rattle.dns_master.proofs.Common.{rules, ◌≢◌, subst, sym, ap, ◌∙◌, kind_by_words, fault_of, NoMemory}
+use Rattle.std.specs.Option.{option_map}
+use Rattle.dns_master.specs.EarlierForm.{handed}
+use Rattle.dns_master.specs.JudgeForm.{KindOwn, Blamed}
+use Rattle.dns_master.specs.ListingForm.{PassesEntry}
+use Rattle.dns_master.proofs.ListingSteps.{stopped-fault, blamed-fault, entry-own, entry-kind}
+use Rattle.dns_master.proofs.scanned.ScannedEntry.take.Goals as goal
+use Rattle.dns_master.proofs.scanned.ScannedEntry.take.Goals.{After-take-taken}
+
+passed : (c : After-take-taken)
+    → PassesEntry c.args.earlier.now c.args.self.now c.take-taken.new.self
+passed c = λ h o earlier known.
+    c.take-taken.ensures.passed o earlier _ known
+    (entry-kind c.args.self.now h c.is_blank_led.result c.is_blank_led.ensures
+    ∙ ap (kind_by_words c.is_blank_led.result) (sym c.all_kept.ensures))
+
+pub returns-in-Some-clause-passed : goal.returns-in-Some-clause-passed
+returns-in-Some-clause-passed c =
+    passed (goal.at.returns-in-Some-clause-passed c).After-take-taken
+
+pub returns-in-Ok-clause-passed : goal.returns-in-Ok-clause-passed
+returns-in-Ok-clause-passed c = passed (goal.at.returns-in-Ok-clause-passed c).After-take-taken
+
+pub returns-in-Err-clause-passed : goal.returns-in-Err-clause-passed
+returns-in-Err-clause-passed c = passed (goal.at.returns-in-Err-clause-passed c).After-take-taken
+
+pub returns-in-Err-2-clause-passed : goal.returns-in-Err-2-clause-passed
+returns-in-Err-2-clause-passed c =
+    passed (goal.at.returns-in-Err-2-clause-passed c).After-take-taken
+
+pub returns-in-Some-clause-taken : goal.returns-in-Some-clause-taken
+returns-in-Some-clause-taken c = λ o earlier known.
+    stopped-fault c.args.self.now c.requires.scanned o earlier c.lexical_fault.result c.in-Some.code
+    c.lexical_fault.ensures.code c.lexical_fault.ensures.number c.lexical_fault.ensures.place
+    c.lexical_fault.ensures.entry (sym c.lexical_code.ensures ∙ ap (option_map fault_of)
+    c.in-Some.is)
+
+pub returns-in-Ok-clause-taken : goal.returns-in-Ok-clause-taken
+returns-in-Ok-clause-taken c = λ o earlier known.
+    let rs = handed c.in-Ok.is_record c.take-taken.new.self.last in
+    entry-own c.args.self.now c.requires.scanned o earlier c.is_blank_led.result
+    c.is_blank_led.ensures (sym c.lexical_code.ensures ∙ ap (option_map fault_of) c.in_default.is)
+    rs
+    (subst (λ ws. KindOwn o earlier (kind_by_words c.is_blank_led.result ws) rs)
+    c.all_kept.ensures (c.in-Ok.ensures.ok o earlier known))
+
+pub returns-in-Err-2-clause-taken : goal.returns-in-Err-2-clause-taken
+returns-in-Err-2-clause-taken c = λ o earlier known.
+    let some : c.in-Err-2.blame.code ≢ NoMemory = search rules in
+    blamed-fault c.args.self.now c.requires.scanned o earlier c.is_blank_led.result
+    c.is_blank_led.ensures (sym c.lexical_code.ensures ∙ ap (option_map fault_of) c.in_default.is)
+    c.fault_by.result c.in-Err-2.blame c.fault_by.ensures.code c.fault_by.ensures.number
+    c.fault_by.ensures.place c.fault_by.ensures.entry
+    (subst (λ ws. Blamed o earlier (kind_by_words c.is_blank_led.result ws) c.in-Err-2.blame)
+    c.all_kept.ensures (c.in-Err-2.ensures.err some o earlier known))

@@ -1,0 +1,119 @@
+//! Why an entry is faulty, and which of its words.
+ghost use Rattle.std.specs.Prelude.{◌≡◌, ◌≢◌, ◌+◌, ◌^◌, ◌<◌, ◌≤◌, length, Some, None, if◌then◌else◌};
+ghost use Rattle.dns_spec.specs.NameText.{name_fault};
+ghost use Rattle.dns_spec.specs.Meaning.{Nothing, fields};
+ghost use Rattle.dns_master.specs.Codes.{fault_of};
+ghost use Rattle.dns_master.specs.RecordForm.{SpelledName};
+ghost use Rattle.dns_master.specs.JudgeForm.{ForDataFault, words_to};
+ghost use Rattle.dns_master.specs.WordsLeft.{words_left};
+
+use crate::earlier::{Blame, RecordFault};
+use crate::entry_words::EntryWords;
+use crate::fields::{Fields, is_class_word, is_ttl_word};
+use crate::read_fault::ReadCode;
+use dns_name::Name;
+use dns_rdata::{RdataFault, Word, Words};
+
+impl Blame {
+    pub(crate) fn after(words: usize, code: ReadCode) -> Blame
+        requires { code ≢ ReadCode.SourceFailed }
+        ensures code { result.code ≡ code }
+        ensures number { result.number ≡ None }
+        ensures words { result.words ≡ words }
+    {
+        Blame {
+            code,
+            number: None,
+            words,
+        }
+    }
+}
+
+/// The blame for an invalid owner, with the number of the name's fault unless it is quoted.
+pub(crate) fn owner_blame(word: &Word<'_>, origin: &Name) -> Blame
+    requires { Nothing (SpelledName origin.now word.now) }
+    ensures code { result.code ≡ ReadCode.BadOwner }
+    ensures number { result.number
+        ≡ (if word.now.is_quoted then None else Some (name_fault word.now.raw)) }
+    ensures words { result.words ≡ 0 }
+{
+    let number = match Name::read_text(word.raw, origin) {
+        Err(fault) if !word.quoted => Some(fault.code()),
+        _ => None,
+    };
+    Blame {
+        code: ReadCode::BadOwner,
+        number,
+        words: 0,
+    }
+}
+
+impl RecordFault {
+    pub(crate) fn of(code: ReadCode) -> RecordFault
+        requires { code ≢ ReadCode.SourceFailed }
+        ensures code { result.code ≡ code }
+        ensures number { result.number ≡ None }
+    {
+        RecordFault { code, number: None }
+    }
+}
+
+/// The fault of a record whose data has this fault.
+pub(crate) fn data_fault(fault: RdataFault) -> RecordFault
+    ensures { ForDataFault fault result }
+{
+    match fault {
+        RdataFault::NoMemory => RecordFault::of(ReadCode::NoMemory),
+        _ => RecordFault {
+            code: ReadCode::BadData,
+            number: Some(fault.code()),
+        },
+    }
+}
+
+/// The blame for the fault of a record, from the words after its owner, which follow `before` words
+/// of the entry; `in_data` words from the type on precede the one at fault in data.
+#[cold]
+#[inline(never)]
+pub(crate) fn record_blame(
+    fault: RecordFault,
+    before: usize,
+    words: EntryWords<'_, '_>,
+    in_data: usize,
+) -> Blame
+    requires few { length (words_left words) < 2 ^ 60 }
+    requires before { before ≤ 1 }
+    requires blamed { fault.code ≡ ReadCode.BadData
+        → in_data ≤ 1 + length (fields (words_left words)).others }
+    ensures code { result.code ≡ fault.code }
+    ensures number { result.number ≡ fault.number }
+    ensures words { result.words
+        ≡ before + words_to (fault_of fault.code) (words_left words.entry) in_data }
+{
+    Blame {
+        code: fault.code,
+        number: fault.number,
+        words: before + words_before(fault.code, words, in_data),
+    }
+}
+
+// The number of words before the one at fault, from the words after the owner. A TTL or a class at
+// fault is the first of these words, or the second after the other of the two.
+fn words_before(code: ReadCode, words: EntryWords<'_, '_>, in_data: usize) -> usize
+    requires few { length (words_left words) < 2 ^ 60 }
+    requires blamed { code ≡ ReadCode.BadData
+        → in_data ≤ 1 + length (fields (words_left words)).others }
+    ensures value { result ≡ words_to (fault_of code) (words_left words.entry) in_data }
+    ensures bound { result < 2 ^ 62 }
+{
+    let before_type = words
+        .count()
+        .saturating_sub(Fields::of(words).others.count());
+    match (code, words.split_first()) {
+        (ReadCode::BadTtl, Some((first, _))) => usize::from(!is_ttl_word(&first)),
+        (ReadCode::OtherClass, Some((first, _))) => usize::from(!is_class_word(&first)),
+        (ReadCode::BadTtl | ReadCode::OtherClass, None) => 0,
+        (ReadCode::BadData, _) => before_type + in_data,
+        _ => before_type,
+    }
+}
