@@ -10,18 +10,11 @@ IsLow o = (o < 65) ⊎ (90 < o)
 pub low_octet : (o : ℕ) → to_ascii_lowercase o ≡ o → IsLow o
 low_octet o e = grind (arith, cases_lt, lowercase_is)
 
--- the effect of raising an octet
-abbrev IsRaised : ℕ → Type 0
-IsRaised o = ((o < 65) × (raised o ≡ o + 1)) ⊎ ((65 ≤ o) × (raised o ≡ o))
-
-raised_is : (o : ℕ) → IsRaised o
-raised_is o = grind (arith, cases_lt, lt-ltb, le-ltb)
-
 pub raised_some : (o : ℕ) → 0 < raised o
-raised_some o = grind (arith, raised_is)
+raised_some o = grind arith
 
 pub raised_less : (x y : ℕ) → IsLow x → IsLow y → x < y → raised x < raised y
-raised_less x y p q l = grind (arith, raised_is)
+raised_less x y p q l = grind arith
 
 raised_order : (x y : ℕ) → IsLow x → IsLow y → nat_cmp (raised x) (raised y) ≡ nat_cmp x y
 raised_order x y p q = go (cases_order x y)

@@ -9,9 +9,6 @@ pub key_append : (n m : DomainName) → name_key (n ++ m) ≡ name_key m ++ name
 key_append [] m = sym (append-nil (name_key m))
 key_append (l ∷ n) m = grind (arith, append_assoc, (key_append n m))
 
-raised_one : (x y : ℕ) → IsLow x → IsLow y → raised x ≡ raised y → x ≡ y
-raised_one x y p q e = grind (arith, cases_order, raised_less)
-
 -- an ended label at the beginning determines the label and what follows it
 ended_first : (xs ys us vs : Octets) → map to_ascii_lowercase xs ≡ xs
     → map to_ascii_lowercase ys ≡ ys → ended xs ++ us ≡ ended ys ++ vs → (xs ≡ ys) × (us ≡ vs)
@@ -20,7 +17,7 @@ ended_first [] (y ∷ ys) us vs p q e = grind (arith, raised, get_or, raised_som
 ended_first (x ∷ xs) [] us vs p q e = grind (arith, raised, get_or, raised_some)
 ended_first (x ∷ xs) (y ∷ ys) us vs p q e =
     let again = ended_first xs ys us vs (ap (drop 1) p) (ap (drop 1) q) (ap (drop 1) e) in
-    grind (arith, raised, get_or, low_octet, raised_one, again)
+    grind (arith, raised, get_or, low_octet, again)
 
 -- labels from the right
 begins : (n m : DomainName) (us : Octets) → folded n ≡ n → folded m ≡ m

@@ -29,14 +29,11 @@ begins-next octets k p here more =
       labels = grind (arith, after_label);
     }
 
-before_or_last : (j k : ℕ) → j < k + 1 → (j < k) ⊎ (j ≡ k)
-before_or_last j k h = grind arith
-
 -- the offset of one more label is stored
 pub starts-more : (octets : Octets) (k p : ℕ) (starts : List ℕ) → k < length starts
     → AreStarts octets k starts → BeginsAt octets k p → AreStarts octets (k + 1) (set starts k p)
 starts-more octets k p starts room known here =
-    grind (arith, before_or_last, get_or-set_other, get_or-set_same)
+    grind (arith, get_or-set_other, get_or-set_same)
 
 -- the next offset fits in an octet, because a name has at most 255 octets
 pub next-fits : (octets : Octets) (k p : ℕ) → IsWireForm octets → BeginsAt octets k p

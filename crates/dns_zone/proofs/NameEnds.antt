@@ -11,10 +11,6 @@ pub record GoesOn (least : ℕ) (n : DomainName) (xs : Octets) (k : ℕ) : Type 
   pub name : is_name rest ≡ true
   pub end : ending least rest ≡ ending least n
 
-pub first_end : (least : ℕ) (n : DomainName) (xs : Octets) → xs ≡ wire n → is_name n ≡ true
-    → GoesOn least n xs 0
-first_end least n xs e ok = grind arith
-
 module _ (least : ℕ) (n : DomainName) (xs : Octets) (k : ℕ) (h : GoesOn least n xs k) where
   -- the length of the next label
   abbrev x : ℕ

@@ -7,21 +7,9 @@ module _ (keys more : Octets) (n : DomainName) where
   key_octets : length (wire n) - 1 ≡ length (name_key n)
   key_octets = omega (arith, key_length n)
 
-  take_none : (k : ℕ) (xs : Octets) → k ≤ 0 → take k xs ≡ []
-  take_none k xs h = grind arith
-
   pub key_stays : (s : ℕ) → key_in keys s n ≡ name_key n → key_in (keys ++ more) s n ≡ name_key n
   key_stays s e =
-      grind (
-        arith,
-        cases_lt,
-        key_octets,
-        length-take,
-        length-drop,
-        drop-append-le,
-        take-append-le,
-        take_none,
-      )
+      grind (arith, cases_lt, key_octets, length-take, length-drop, drop-append-le, take-append-le)
 
   pub key_added : key_in (keys ++ name_key n) (length keys) n ≡ name_key n
   key_added = grind (arith, drop-append_seam, key_octets, take-length)

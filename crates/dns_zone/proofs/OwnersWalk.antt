@@ -34,9 +34,6 @@ module _ (z : ZoneContents) where
   abbrev IsAll : List ResourceRecord → ResourceRecord → Type 0
   IsAll rs r = filter (is_at r.owner) rs ≡ at z r.owner
 
-  pub all_owners : AreOrdered z.records → HasOwners z z.records
-  all_owners h = grind (arith, All-from_recursion, IsAll, each_always)
-
   -- a test of owners keeps all records of an owner, or none
   pub kept_owners : (p : ResourceRecord → Bool) (rs : List ResourceRecord)
       → ((s r : ResourceRecord) → same s.owner r.owner ≡ true → p r ≡ true → p s ≡ true)

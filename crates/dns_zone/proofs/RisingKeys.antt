@@ -69,9 +69,6 @@ module _ (R : SortKey → SortKey → Ordering) (total : IsTotalOrder R) where
   not_less : (p q : SortKey) → R p q ≡ Less → is_lt (R q p) ≡ false
   not_less p q h = ap is_lt (total.antisymm q p ∙ ap ordering_reverse h)
 
-  not_same : (p q : SortKey) → R p q ≡ Less → eq_by_cmp R q p ≡ false
-  not_same p q h = ap is_eq (total.antisymm q p ∙ ap ordering_reverse h)
-
   pub rising_sorted : (ps : List SortKey) → RiseUpTo R ps (length ps) → IsSorted R ps
   rising_sorted ps r k d low h = grind (arith, not_less, get_or_default, (r k))
 
@@ -83,7 +80,7 @@ module _ (R : SortKey → SortKey → Ordering) (total : IsTotalOrder R) where
       → dedup_from (eq_by_cmp R) p ps ≡ p ∷ ps
   distinct_from p [] r = refl
   distinct_from p (q ∷ qs) r =
-      grind (arith, not_same, (r 0), (distinct_from q qs (rest_rises p (q ∷ qs) r)))
+      grind (arith, (r 0), (distinct_from q qs (rest_rises p (q ∷ qs) r)))
 
   pub rising_distinct : (ps : List SortKey) → RiseUpTo R ps (length ps)
       → dedup (eq_by_cmp R) ps ≡ ps

@@ -1,5 +1,5 @@
 //! Records in canonical order, without duplicates.
-ghost use Rattle.std.specs.Prelude.{◌≡◌, ℕ, ◌<◌, ◌≤◌, All, length, map, get_or, IfOk, OnOk};
+ghost use Rattle.std.specs.Prelude.{◌≡◌, ◌<◌, ◌≤◌, All, length, map, IfOk, OnOk};
 ghost use Rattle.dns_spec.specs.Names.{Octets};
 ghost use Rattle.dns_spec.specs.Meaning.{most_records};
 ghost use Rattle.dns_spec.specs.Records.{records_equal, distinct, sort_by, record_order};
@@ -36,8 +36,8 @@ pub(crate) fn sorted(
 {
     let (keys, mut sort_keys) = keys_of(alloc, &*origin, records.as_slice())?;
     sort_distinct(keys.as_slice(), records.as_slice(), &mut sort_keys)?;
-    gather(alloc, &mut records, sort_keys.as_slice())?;
     let starts = starts_of(alloc, sort_keys.as_slice())?;
+    gather(&mut records, sort_keys.as_mut_slice());
     Ok((records, OwnerKeys { keys, starts }))
 }
 
@@ -68,33 +68,24 @@ fn sort_distinct(
 }
 
 // Moves the record of each sort key to the index of this key in the list, and drops the others.
-fn gather(
-    alloc: Global,
-    records: &mut Vec<StoredRecord>,
-    sort_keys: &[SortKey],
-) -> Result<(), AllocError>
+// Leaves other indices in the sort keys.
+fn gather(records: &mut Vec<StoredRecord>, sort_keys: &mut [SortKey])
     requires few { length records.old.items ≤ most_records }
-    requires inside { All (λ (p : SortKey). p.at < length records.old.items) sort_keys.now }
-    requires apart { AreApart sort_keys.now }
-    requires fewer { length sort_keys.now ≤ length records.old.items }
-    ensures { OnOk result (records.new.items
-        ≡ map (placed records.old.items no_record) sort_keys.now) }
+    requires inside { All (λ (p : SortKey). p.at < length records.old.items) sort_keys.old }
+    requires apart { AreApart sort_keys.old }
+    requires fewer { length sort_keys.old ≤ length records.old.items }
+    ensures { records.new.items ≡ map (placed records.old.items no_record) sort_keys.old }
 {
-    // Where each record is now, and which record is now at each index.
-    let mut index_of = counted(alloc, records.len())?;
-    let mut record_at = counted(alloc, records.len())?;
     'sort_keys: for to in 0..sort_keys.len() {
-        let record = sort_keys[to].at;
-        let from = index_of[record as usize];
-        let other = record_at[to];
-        records.swap(to, from as usize);
-        record_at[from as usize] = other;
-        index_of[other as usize] = from;
-        record_at[to] = record;
-        index_of[record as usize] = to as u32;
+        // A record that had to make way is at the index that the sort key there has now.
+        let mut from = sort_keys[to].at as usize;
+        'moved: while from < to {
+            from = sort_keys[from].at as usize;
+        }
+        records.swap(to, from);
+        sort_keys[to].at = from as u32;
     }
     records.truncate(sort_keys.len());
-    Ok(())
 }
 
 fn starts_of(alloc: Global, sort_keys: &[SortKey]) -> Result<Vec<u32>, AllocError>
@@ -104,17 +95,4 @@ fn starts_of(alloc: Global, sort_keys: &[SortKey]) -> Result<Vec<u32>, AllocErro
         .iter()
         .map(|sort_key| sort_key.start)
         .collect(alloc)
-}
-
-// The numbers below `count`.
-fn counted(alloc: Global, count: usize) -> Result<Vec<u32>, AllocError>
-    requires { count ≤ most_records }
-    ensures { IfOk result (λ numbers. (length numbers.items ≡ count)
-        × ((i : ℕ) (d : ℕ) → i < count → get_or numbers.items i d ≡ i)) }
-{
-    let mut numbers = Vec::with_capacity(alloc, count)?;
-    'numbers: for number in 0..count {
-        numbers.push(number as u32)?;
-    }
-    Ok(numbers)
 }

@@ -2,13 +2,13 @@ use Rattle.dns_zone.proofs.Common.{rules, ◌≡◌, ◌+◌, ◌-◌, ◌∷◌
 use Rattle.dns_zone.proofs.AtName.{is_at}
 use Rattle.dns_zone.proofs.GrowingNames.{LastName, root_first, comes_next, added_last, each_added, all_added}
 use Rattle.dns_zone.proofs.OwnerKeys.{first_keyed}
-use Rattle.dns_zone.proofs.OwnersWalk.{Step, step, all_owners, one_more}
+use Rattle.dns_zone.proofs.OwnersWalk.{Step, step, one_more}
 use Rattle.dns_zone.proofs.TopmostCut.{topmost_fits}
 use Rattle.dns_zone.proofs.names.checked_names.Goals as goal
 use Rattle.dns_zone.proofs.names.checked_names.Goals.{After-split_at, In_ok-push}
 
 pub owners-init : goal.owners-init
-owners-init c = grind (arith, all_owners, root_first)
+owners-init c = grind (arith, root_first)
 
 pub index-requires : goal.index-requires
 index-requires c = grind arith

@@ -1,9 +1,9 @@
 use Rattle.dns_zone.proofs.Common.{rules, ◌∙◌, arith, IsWireForm-wire, labels_of_spelled}
-use Rattle.dns_zone.proofs.NameEnds.{first_end, inside, next_end, last_end}
+use Rattle.dns_zone.proofs.NameEnds.{inside, next_end, last_end}
 use Rattle.dns_zone.proofs.order.above.shortest_end.Goals as goal
 
 pub labels-init : goal.labels-init
-labels-init c = search (rules, first_end)
+labels-init c = search rules
 
 pub overflow_add-next : goal.overflow_add-next
 overflow_add-next c = omega (arith, c.labels.invariant.fits, c.octets-octets.ensures.bound)
