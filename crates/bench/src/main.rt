@@ -25,9 +25,7 @@ fn do_all<R: Env + Files + Input + Print + AllocGlobal>(rt: &R) -> Result<(), Fa
     let [rounds] = words.as_slice() else {
         return Err(FaultText::Usage);
     };
-    let Ok(rounds) = rounds.parse::<u32>() else {
-        return Err(FaultText::Usage);
-    };
+    let rounds = rounds.parse::<u32>().map_err(|_| FaultText::Usage)?;
     let input = io::read_to_string(rt.alloc(), rt.reader());
     let input = input.map_err(|_| FaultText::SourceFailed)?;
     for line in input.as_str().lines() {

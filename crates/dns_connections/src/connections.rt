@@ -293,14 +293,7 @@ impl<'z, Z: Served, K: Sockets> Connections<'z, Z, K> {
 
     // The connection that made no progress for the longest time.
     fn oldest(&self) -> Option<usize> {
-        let mut oldest: Option<(usize, Duration)> = None;
-        'peers: for key in 0..KEYS {
-            if let Some(peer) = self.peers.get(key) {
-                if oldest.is_none_or(|(_, since)| peer.since < since) {
-                    oldest = Some((key, peer.since));
-                }
-            }
-        }
+        let oldest = self.peers.iter().min_by_key(|(_, peer)| peer.since);
         oldest.map(|(key, _)| key)
     }
 
@@ -348,10 +341,9 @@ impl<'z, Z: Served, K: Sockets> Connections<'z, Z, K> {
     // Gives each connection that is ready a turn.
     fn take_turns(&mut self, now: Duration) {
         'turns: for _ in 0..self.ready.len() {
-            let Some(key) = self.ready.pop_front() else {
-                break;
-            };
-            self.take_turn(key, now);
+            if let Some(key) = self.ready.pop_front() {
+                self.take_turn(key, now);
+            }
         }
     }
 

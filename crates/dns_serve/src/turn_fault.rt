@@ -2,26 +2,32 @@
 ghost use Rattle.std.specs.Prelude.{◌≡◌};
 
 use dns_name::{SinkFailed, SourceFailed};
+use thiserror::Error;
 
-/// Why a turn over UDP failed.
-#[derive(Clone, Copy, Debug, PartialEq, Eq)]
+/// Why a turn over UDP failed. It is displayed as the diagnostic that a server prints.
+#[derive(Clone, Copy, Debug, PartialEq, Eq, Error)]
 pub enum TurnFault {
-    /// No datagram was received, and nothing was sent (`U1`).
+    /// No datagram was received, and nothing was sent.
+    #[error("U1")]
     ReceiveFailed,
-    /// The reply could not be sent (`U2`).
+    /// The reply could not be sent.
+    #[error("U2")]
     SendFailed,
 }
 
-/// Why a session over a stream ended early.
-#[derive(Clone, Copy, Debug, PartialEq, Eq)]
+/// Why a session over a stream ended early. It is displayed as the diagnostic that a server prints.
+#[derive(Clone, Copy, Debug, PartialEq, Eq, Error)]
 pub enum StreamFault {
-    /// The source failed (`S1`). The replies to all complete messages were written.
+    /// The source failed. The replies to all complete messages were written.
+    #[error("S1")]
     SourceFailed,
-    /// The sink failed (`S2`). `serve_stream` has then written the replies to all messages but the
-    /// last one read, and a prefix of the reply to the last one.
+    /// The sink failed. `serve_stream` has then written the replies to all messages but the last one
+    /// read, and a prefix of the reply to the last one.
+    #[error("S2")]
     SinkFailed,
-    /// The source ended inside a length or a message (`S3`). The replies to all earlier messages
-    /// were written.
+    /// The source ended inside a length or a message. The replies to all earlier messages were
+    /// written.
+    #[error("S3")]
     Cut,
 }
 

@@ -83,11 +83,12 @@ header_written m id flags q a n r e f g h i j =
     " ") (hex_text (octets16 m.header.flags)) (decimal (length m.questions)) (decimal (length
     m.answers)) (decimal (length m.authorities)) (decimal (length m.additionals)) (codes "\n"))
 
-pub question_written : {q v : MessageQuestion} → q ≡ v → codes "question "
-    ++ (name_text q.qname ++ (class_text q.qclass ++ (type_text q.qtype ++ (codes "\n" ++ []))))
+pub question_written : {name : DomainName} {q v : MessageQuestion}
+    → name ≡ q.qname → q ≡ v → codes "question "
+    ++ (name_text name ++ (class_text q.qclass ++ (type_text q.qtype ++ (codes "\n" ++ []))))
     ≡ question_line v
-question_written {v = v} e =
-    rw e (five_parts
+question_written {v = v} same e =
+    rw (same, e) (five_parts
     (codes "question ") (name_text v.qname) (class_text v.qclass) (type_text v.qtype) (codes "\n"))
 
 pub fault_written : {f v : Fault} → f ≡ v
@@ -96,12 +97,13 @@ pub fault_written : {f v : Fault} → f ≡ v
 fault_written {v = v} e =
     rw e (four_parts (name_text v.owner) (codes " Z") (two_digits v.code) (codes "\n"))
 
-pub section_written : (section : Octets) (r v : MessageRecord) (ttl : ℕ)
-    → r ≡ v → ttl ≡ r.ttl → section ++ (codes " " ++ (name_text r.owner ++ (codes " "
+pub section_written : (section : Octets) {owner : DomainName} (r v : MessageRecord) (ttl : ℕ)
+    → owner ≡ r.owner → r ≡ v → ttl ≡ r.ttl
+    → section ++ (codes " " ++ (name_text owner ++ (codes " "
     ++ (decimal ttl ++ (class_text r.rclass ++ (type_text r.rtype ++ (codes " " ++ (data_text
     (data_type v.rtype v.rclass) v.rdata ++ (codes "\n" ++ []))))))))) ≡ section_line section v
-section_written section r v ttl e t =
-    rw (t, e) (ten_parts section (codes " ")
+section_written section r v ttl same e t =
+    rw (same, t, e) (ten_parts section (codes " ")
     (name_text v.owner) (codes " ") (decimal v.ttl) (class_text v.rclass) (type_text v.rtype)
     (codes " ") (data_text (data_type v.rtype v.rclass) v.rdata) (codes "\n"))
 

@@ -86,24 +86,25 @@ all_left contents old whole = record {
 abbrev pub check_line : CheckFaults → CheckFault → Octets
 check_line zone fault = fault_report (fault_of (zone_in zone) fault)
 
-pub check_written : (zone : CheckFaults) (fault : CheckFault) {owner : DomainName}
-    → owner ≡ numbered_owner (zone_in zone) fault.owner
-    → name_text owner ++ (codes " Z" ++ (two_digits fault.code ++ (codes "\n" ++ [])))
-    ≡ check_line zone fault
-check_written zone fault {owner} e =
-    fault_written {f = record { owner = owner; code = fault.code }}
-    (ap (λ (n : DomainName). record { owner = n; code = fault.code }) e)
-
--- the line of the next fault of a zone, and the lines after it
+-- the line of the next fault of a zone, as it is written, and the lines after it
 pub next_check : (zone : CheckFaults) (xs : List CheckFault) (i : ℕ) (f : CheckFault)
-    → xs ≡ zone.found.items → i < length xs → flat_map (check_line zone) (drop i zone.found.items)
-    ≡ check_line zone (get_or xs i f) ++ flat_map (check_line zone) (drop (i + 1) zone.found.items)
-next_check zone xs i f is less = go (check_line zone) zone.found.items is
+    {owner : DomainName} {text : Octets} → xs ≡ zone.found.items → i < length xs
+    → owner ≡ numbered_owner (zone_in zone) (get_or xs i f).owner → text ≡ name_text owner
+    ++ (codes " Z" ++ (two_digits (get_or xs i f).code ++ (codes "\n" ++ [])))
+    → flat_map (check_line zone) (drop i zone.found.items)
+    ≡ text ++ flat_map (check_line zone) (drop (i + 1) zone.found.items)
+next_check zone xs i f {owner} is less name text_is =
+    let fault = get_or xs i f in
+    let line = text_is
+    ∙ fault_written {f = record { owner = owner; code = fault.code }}
+    (ap (λ (n : DomainName). record { owner = n; code = fault.code }) name) in
+    next (check_line zone) zone.found.items is
+    ∙ ap (λ t. t ++ flat_map (check_line zone) (drop (i + 1) zone.found.items)) (sym line)
   where
-    go : (line : CheckFault → Octets) (items : List CheckFault) → xs ≡ items
+    next : (line : CheckFault → Octets) (items : List CheckFault) → xs ≡ items
         → flat_map line (drop i items)
         ≡ line (get_or xs i f) ++ flat_map line (drop (i + 1) items)
-    go line items is = rw (← is, drop-cons xs i f, add-one) refl
+    next line items is = rw (← is, drop-cons xs i f, add-one) refl
 
 -- no line for a fault of a zone is written yet
 pub all_checked : {V : Type 0} (contents : V → Option Octets) (old : Counted V)

@@ -1,11 +1,7 @@
 -- What the printer of a message has read and written, by its result.
-use Rattle.std.specs.Prelude.{◌≡◌, ◌≢◌, ℕ, Bool, false, ◌++◌, codes, decimal, Result, Ok, Err}
+use Rattle.std.specs.Prelude.{◌≡◌, ℕ, Bool, ◌++◌, codes, decimal, Result, Ok, Err}
 use Rattle.dns_spec.specs.Names.{Octets}
-use Rattle.dns_spec.specs.Report.{Report}
 use Rattle.dns_spec.specs.MessageLines.{PrintsInput}
-use Rattle.dns_wire.specs.WireFault.{fault_code}
-use Rattle.dns_wire.specs.declared.wire_fault.WireFault.{WireFault}
-use Rattle.dns_wire.specs.declared.wire_fault.WireFault.TheVariants.{NoMemory}
 use Rattle.dns_serve.specs.Streams.{Session}
 use Rattle.dns_tools.specs.declared.stop.Stop.{Stop}
 use Rattle.dns_tools.specs.declared.stop.Stop.TheVariants.{Memory, Source, Sink}

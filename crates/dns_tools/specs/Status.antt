@@ -4,18 +4,8 @@ use Rattle.clap.specs.declared.error.kind.ErrorKind.{ErrorKind}
 use Rattle.clap.specs.declared.error.kind.ErrorKind.TheVariants.{OutOfMemory}
 use Rattle.dns_tools.specs.declared.stop.Stop.{Stop}
 use Rattle.dns_tools.specs.declared.stop.Stop.TheVariants.{Memory, Source, Sink}
-use Rattle.dns_serve.specs.declared.turn_fault.TurnFault.{TurnFault}
-use Rattle.dns_serve.specs.declared.turn_fault.TurnFault.TheVariants.{ReceiveFailed, SendFailed}
-use Rattle.dns_serve.specs.declared.turn_fault.StreamFault.{StreamFault}
-use Rattle.dns_serve.specs.declared.turn_fault.StreamFault.TheVariants.{SourceFailed, SinkFailed, Cut}
-use Rattle.dns_tools.specs.declared.stop.TurnFaultText.{TurnFaultText}
-use Rattle.dns_tools.specs.declared.stop.TurnFaultText.TheVariants.{NoDatagram, NotSent}
-use Rattle.dns_tools.specs.declared.stop.TurnFaultText.TheVariants.{StreamNotRead, StreamNotWritten}
-use Rattle.dns_tools.specs.declared.stop.TurnFaultText.TheVariants.{StreamCut}
 use Rattle.dns_tools.specs.declared.stop.FaultText.{FaultText}
-use Rattle.dns_tools.specs.declared.stop.FaultText.TheVariants.{NoMemory, Usage}
-use Rattle.dns_tools.specs.declared.stop.FaultText.TheVariants.{SourceFailed as FileFailed}
-use Rattle.dns_tools.specs.declared.stop.FaultText.TheVariants.{SinkFailed as NotWritten}
+use Rattle.dns_tools.specs.declared.stop.FaultText.TheVariants.{NoMemory, Usage, SourceFailed, SinkFailed}
 
 -- 0 if all was well, 1 if the input has a fault, 2 if the program could not finish
 abbrev pub status_of : {E : Type 0} → Result Bool E → ℕ
@@ -26,8 +16,8 @@ status_of (Err e) = 2
 -- the diagnostic for a run that stopped
 abbrev pub fault_text : Stop → FaultText
 fault_text Memory = NoMemory
-fault_text Source = FileFailed
-fault_text Sink = NotWritten
+fault_text Source = SourceFailed
+fault_text Sink = SinkFailed
 
 -- the diagnostic for arguments that `clap` refuses
 abbrev pub text_of_kind : ErrorKind → FaultText
@@ -42,14 +32,3 @@ end_of (Err stop) = Err (fault_text stop)
 -- the status of a server after its last turn
 abbrev pub status_of_turns : Bool → ℕ
 status_of_turns are_said = if are_said then 0 else 2
-
--- the diagnostic for a turn over UDP that failed
-abbrev pub text_of_turn : TurnFault → TurnFaultText
-text_of_turn ReceiveFailed = NoDatagram
-text_of_turn SendFailed = NotSent
-
--- the diagnostic for a session over a stream that ended early
-abbrev pub text_of_stream : StreamFault → TurnFaultText
-text_of_stream SourceFailed = StreamNotRead
-text_of_stream SinkFailed = StreamNotWritten
-text_of_stream Cut = StreamCut

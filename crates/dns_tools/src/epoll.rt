@@ -2,7 +2,7 @@
 ghost use Rattle.std.specs.Prelude.{◌≡◌, ◌⊎◌, [], None, IfErr};
 
 use crate::startup::text_or_no_memory;
-use crate::stop::{FaultText, TurnFaultText};
+use crate::stop::FaultText;
 use crate::watch::{Watch, is_unread};
 use dns_connections::{Found, Sockets, Stopped, Stream};
 use dns_serve::StreamFault;
@@ -10,6 +10,7 @@ use dns_zone::Zone;
 use mio::net::{TcpListener, TcpStream};
 use mio::{Events, Interest, Poll, Token};
 use std::collections::VecDeque;
+use std::fmt::Display;
 use std::io::{self, ErrorKind, Read, Write};
 use std::net::{self, Net, Shutdown};
 use std::thread;
@@ -125,13 +126,7 @@ impl LingeringQueue {
         }
         self.next_look = now.saturating_add(Duration::from_millis(LOOK));
         let mut buffer = [0; 4096];
-        'queue: for _ in 0..self.queue.len() {
-            if let Some(mut oldest) = self.queue.pop_front() {
-                if now < oldest.until && oldest.discard(&mut buffer) {
-                    let _ = self.queue.push_back(oldest);
-                }
-            }
-        }
+        self.queue.retain_mut(|lingering| now < lingering.until && lingering.discard(&mut buffer));
     }
 
     fn add(&mut self, stream: TcpStream, now: Duration) {
@@ -246,7 +241,7 @@ impl<R: Clock> Epoll<'_, R> {
 
 impl<R: Clock + Eprint> Epoll<'_, R> {
     // Writes a diagnostic, unless an earlier one could not be written.
-    fn say(&mut self, text: TurnFaultText)
+    fn say(&mut self, text: impl Display + Drop)
         ensures { self.new.connected ≡ self.old.connected }
     {
         self.are_said = self.are_said && self.rt.eprintln(text).is_ok();
@@ -344,11 +339,11 @@ impl<R: Clock + Eprint> Sockets for Epoll<'_, R> {
     }
 
     fn report(&mut self, fault: StreamFault) {
-        self.say(TurnFaultText::from(fault));
+        self.say(fault);
     }
 
     fn report_refusal(&mut self) {
-        self.say(TurnFaultText::NotAccepted);
+        self.say("accept");
     }
 
     fn now(&mut self) -> Duration {

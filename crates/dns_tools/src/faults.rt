@@ -102,7 +102,8 @@ fn list_file<W: Write>(alloc: Global, origin: &Name, text: &[u8], sink: &mut Tal
     let mut store = Store::new(alloc);
     let list = list_text(alloc, &origin.fold(), text, &mut store)?;
     let zone = listed(&list, zone_faults(alloc, origin, store)?);
-    write_list(&list, &zone, text, sink)?;
+    write_entry_faults(&list, text, sink)?;
+    write_check_faults(&zone, sink)?;
     Ok(list.faults.is_empty() && zone.found.is_empty())
 }
 
@@ -136,20 +137,6 @@ fn is_lasting(code: u8) -> bool
     ensures { result ≡ is_lasting code }
 {
     !matches!(code, 1 | 4 | 10)
-}
-
-fn write_list<W: Write>(
-    list: &FaultList,
-    zone: &CheckFaults,
-    text: &[u8],
-    sink: &mut Tally<W>,
-) -> Result<(), SinkFailed>
-    requires { sink.old.failures < 2 ^ 64 - 1 }
-    ensures { Writes W.contents sink.old sink.new result
-        (list_report text.now list.now ++ flat_map fault_report (faults_in zone.now)) }
-{
-    write_entry_faults(list, text, sink)?;
-    write_check_faults(zone, sink)
 }
 
 fn write_entry_faults<W: Write>(

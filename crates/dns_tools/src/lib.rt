@@ -31,8 +31,6 @@ pub use message::run_message;
 pub use nonblocking::Nonblocking;
 pub use once::run_once;
 pub use socket::Socket;
-pub use startup::{end, finish, given_words, open_file, refuse, say, say_serving};
-pub use stop::{
-    FAULT_STATUS, FaultText, Outcome, Stop, TurnFaultText, end_of, exit_status, status_of_turns,
-};
+pub use startup::{buffered_stream, end, finish, given_words, open_file, refuse, say, say_serving};
+pub use stop::{FAULT_STATUS, FaultText, Outcome, Stop, end_of, exit_status, status_of_turns};
 pub use watch::Watch;

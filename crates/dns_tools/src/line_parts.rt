@@ -10,7 +10,7 @@ ghost use Rattle.dns_tools.specs.Parts.{part_text, parts_text};
 ghost use Rattle.dns_tools.specs.declared.stop.Stop.TheVariants.{Sink};
 
 use crate::stop::Stop;
-use dns_name::{Name, SinkFailed, Tally, TextBuffer};
+use dns_name::{Name, NameRef, SinkFailed, Tally, TextBuffer};
 use dns_rdata::{RType, Rdata};
 use dns_wire::{CLASS_IN, WireRecord};
 use itoa::Buffer;
@@ -20,7 +20,7 @@ use std::io::Write;
 const NAME_ROOM: usize = 1020;
 
 /// A part of a line.
-#[derive(Clone, Copy)]
+#[derive(Drop)]
 pub(crate) enum LinePart<'a> {
     /// A literal text.
     Text(&'a [u8]),
@@ -33,7 +33,7 @@ pub(crate) enum LinePart<'a> {
     /// A dot and a number in decimal, or nothing.
     DottedNumber(Option<u8>),
     /// A name with a dot after each label.
-    Name(&'a Name),
+    Name(NameRef<'a>),
     /// A name without its final dot.
     BareName(&'a Name),
     /// A class between spaces: ` IN `, or ` CLASS3 ` (RFC 3597 5).
@@ -81,7 +81,7 @@ impl LinePart<'_> {
             LinePart::Hex(number) => text.append(hex_of(*number).as_slice()),
             LinePart::Code(code) => text.append(&[b'0' + *code / 10, b'0' + *code % 10]),
             LinePart::DottedNumber(number) => append_dotted(*number, text),
-            LinePart::Name(name) => name.borrowed().append_text(text),
+            LinePart::Name(name) => name.append_text(text),
             LinePart::BareName(name) => name.append_bare_text(text),
             LinePart::Class(class) => append_class(*class, text),
             LinePart::TypeName(rtype) => rtype.append_text(text),

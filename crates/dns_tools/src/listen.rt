@@ -4,7 +4,7 @@ ghost use Rattle.std.specs.Prelude.{◌≡◌, ◌+◌, ◌^◌, ◌<◌, Bool, 
 ghost use Rattle.dns_tools.specs.Turns.{TakesTurns, EndsTurns};
 
 use crate::socket::Socket;
-use crate::stop::{FaultText, TurnFaultText};
+use crate::stop::FaultText;
 use crate::watch::Watch;
 use dns_answer::UdpBuilder;
 use dns_serve::{Datagrams, udp_turn_in};
@@ -27,10 +27,9 @@ pub fn socket_at<'a, R: Net + Clock>(rt: &'a R, address: &str) -> Result<Socket<
     }) }
     ensures fault { IfErr result (λ fault. fault ≡ FaultText.NotBound) }
 {
-    match UdpSocket::bind(rt, socket_address(address)?) {
-        Ok(socket) => Ok(Socket::new(socket, rt, None)),
-        Err(_) => Err(FaultText::NotBound),
-    }
+    let socket = UdpSocket::bind(rt, socket_address(address)?);
+    let socket = socket.ok().ok_or(FaultText::NotBound)?;
+    Ok(Socket::new(socket, rt, None))
 }
 
 /// A listening TCP socket at an address. Fails with `bind` if the address can't be used.
@@ -39,9 +38,8 @@ where
     R: Net<Listener = TcpListener, Stream = TcpStream>,
     ensures { IfErr result (λ fault. fault ≡ FaultText.NotBound) }
 {
-    TcpListener::bind(rt, socket_address(address)?)
-        .ok()
-        .ok_or(FaultText::NotBound)
+    let listener = TcpListener::bind(rt, socket_address(address)?);
+    listener.ok().ok_or(FaultText::NotBound)
 }
 
 /// The UDP socket that the process was given, which has received nothing here yet. Fails with
@@ -62,10 +60,8 @@ pub fn given_socket<'a, I: AsFd, C: Clock>(
     ensures fault { IfErr result (λ fault. fault ≡ FaultText.NotBound) }
 {
     let socket = UdpSocket::from(copy_of(given)?);
-    if socket
-        .local_addr()
-        .is_ok_and(|address| is_udp(&socket, address))
-    {
+    let address = socket.local_addr();
+    if address.is_ok_and(|address| is_udp(&socket, address)) {
         return Ok(Socket::new(socket, clock, Some(watch)));
     }
     Err(FaultText::NotBound)
@@ -80,9 +76,8 @@ pub fn given_listener<I: AsFd>(given: &I) -> Result<TcpListener, FaultText>
     let stream = TcpStream::from(copy_of(given)?);
     // Reading a TCP option fails on other sockets.
     let is_tcp = stream.nodelay().is_ok();
-    let has_port = listener
-        .local_addr()
-        .is_ok_and(|address| address.port() > 0);
+    let address = listener.local_addr();
+    let has_port = address.is_ok_and(|address| address.port() > 0);
     if is_tcp && has_port && stream.peer_addr().is_err() {
         return Ok(listener);
     }
@@ -159,7 +154,7 @@ pub fn serve_datagrams<E: Eprint, D: Datagrams + Ending>(
             if device.is_over() {
                 break;
             }
-            are_said = are_said && rt.eprintln(TurnFaultText::from(fault)).is_ok();
+            are_said = are_said && rt.eprintln(fault).is_ok();
         }
     }
     are_said

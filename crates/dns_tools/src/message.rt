@@ -99,10 +99,9 @@ fn write_fault<W: Write>(fault: WireFault, sink: &mut Tally<W>) -> Result<(), Si
     requires { sink.old.failures < 2 ^ 64 - 1 }
     ensures { Writes W.contents sink.old sink.new result (fault_line (fault_code fault)) }
 {
-    let number = u64::from(fault.code());
     let line = [
         LinePart::Text(b"fault "),
-        LinePart::Number(number),
+        LinePart::Number(u64::from(fault.code())),
         LinePart::Text(b"\n"),
     ];
     write_parts(line.as_slice(), sink)
@@ -126,19 +125,18 @@ fn write_header<W: Write>(message: &Message, sink: &mut Tally<W>) -> Result<(), 
     requires { sink.old.failures < 2 ^ 64 - 1 }
     ensures { Writes W.contents sink.old sink.new result (header_line message.now) }
 {
-    let space = LinePart::Text(b" ");
     let line = [
         LinePart::Text(b"header "),
         LinePart::Hex(message.head.id),
-        space,
+        LinePart::Text(b" "),
         LinePart::Hex(message.head.flags),
-        space,
+        LinePart::Text(b" "),
         LinePart::Number(message.questions.len() as u64),
-        space,
+        LinePart::Text(b" "),
         LinePart::Number(message.answers.len() as u64),
-        space,
+        LinePart::Text(b" "),
         LinePart::Number(message.authorities.len() as u64),
-        space,
+        LinePart::Text(b" "),
         LinePart::Number(message.additionals.len() as u64),
         LinePart::Text(b"\n"),
     ];
@@ -153,7 +151,7 @@ fn write_questions<W: Write>(questions: &[Question], sink: &mut Tally<W>) -> Res
     'questions: for question in questions {
         let line = [
             LinePart::Text(b"question "),
-            LinePart::Name(&question.name),
+            LinePart::Name(question.name.borrowed()),
             LinePart::Class(question.qclass),
             LinePart::TypeName(RType(question.qtype)),
             LinePart::Text(b"\n"),
@@ -173,17 +171,16 @@ fn write_records<'a, W: Write>(
     ensures { Writes W.contents sink.old sink.new result
         (flat_map (section_line section.now) records.now) }
 {
-    let space = LinePart::Text(b" ");
     'records: for record in records {
         let line = [
             LinePart::Text(section),
-            space,
-            LinePart::Name(&record.owner),
-            space,
+            LinePart::Text(b" "),
+            LinePart::Name(record.owner.borrowed()),
+            LinePart::Text(b" "),
             LinePart::Number(u64::from(record.ttl)),
             LinePart::Class(record.rclass),
             LinePart::TypeName(record.rtype),
-            space,
+            LinePart::Text(b" "),
             LinePart::Data(record),
             LinePart::Text(b"\n"),
         ];

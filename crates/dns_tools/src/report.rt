@@ -20,9 +20,8 @@ pub(crate) fn write_check_faults<W: Write>(
         (flat_map fault_report (faults_in faults.now)) }
 {
     'faults: for fault in faults.found.as_slice() {
-        let owner = faults.owner(fault).to_name();
         let line = [
-            LinePart::Name(&owner),
+            LinePart::Name(faults.owner(fault)),
             LinePart::Text(b" Z"),
             LinePart::Code(fault.code),
             LinePart::Text(b"\n"),

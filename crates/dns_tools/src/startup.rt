@@ -24,11 +24,7 @@ pub fn given_words<R: Env + AllocGlobal>(rt: &R) -> Result<Vec<String>, FaultTex
 {
     let given = env::args(&(Arguments { rt }, rt.alloc()));
     let given = given.map_err(|error| text_or_no_memory(&error, FaultText::Usage))?;
-    let mut words = Vec::new(rt.alloc());
-    for word in given {
-        words.push(word)?;
-    }
-    Ok(words)
+    Ok(given.collect(rt.alloc())?)
 }
 
 // The environment without the program's own name, which need not be text.
@@ -101,8 +97,7 @@ pub fn refuse<R: Clock + AllocGlobal, E: Print>(
         Ok(()) => Ok(false),
         Err(failed) => Err(failed.into()),
     };
-    let (outcome, _device) = finish(outcome, sink.into_inner());
-    Ok(exit_status(&outcome))
+    Ok(exit_status(&finish(outcome, sink.into_inner()).0))
 }
 
 /// Writes the line to standard output that says that a zone is served. Fails with `P1` if that
@@ -116,21 +111,20 @@ pub fn say_serving<R: Clock + Print + AllocGlobal>(rt: &R, zone: &Zone) -> Resul
         Ok(()) => Ok(true),
         Err(failed) => Err(failed.into()),
     };
-    let (outcome, _device) = finish(outcome, sink.into_inner());
-    end_of(outcome)?;
+    end_of(finish(outcome, sink.into_inner()).0)?;
     Ok(())
 }
 
-// A standard stream with a buffer, whose calls wait even if the stream is non-blocking.
-fn buffered_stream<'a, R: Clock + AllocGlobal, P: Print>(
+/// A standard stream with a buffer, whose calls wait even if the stream is non-blocking. Fails with
+/// `no memory` if allocation fails.
+pub fn buffered_stream<'a, R: Clock + AllocGlobal, P: Print>(
     rt: &'a R,
     stream: &'a P,
 ) -> Result<BufWriter<Nonblocking<'a, io::Printer<'a, P>, R>>, FaultText>
     ensures { IfErr result (λ fault. fault ≡ FaultText.NoMemory) }
 {
-    BufWriter::new(rt.alloc(), Nonblocking::new(io::writer(stream), rt))
-        .ok()
-        .ok_or(FaultText::NoMemory)
+    let buffered = BufWriter::new(rt.alloc(), Nonblocking::new(io::writer(stream), rt));
+    buffered.ok().ok_or(FaultText::NoMemory)
 }
 
 /// The exit status of a program: the given one, or, if the program stopped early, 2, after its

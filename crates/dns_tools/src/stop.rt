@@ -4,11 +4,10 @@ ghost use Rattle.dns_tools.specs.declared.stop.Stop.TheVariants.{Memory};
 ghost use Rattle.dns_tools.specs.declared.stop.FaultText.TheVariants.{BadOrigin, NoMemory};
 ghost use Rattle.clap.specs.Values.{kind_of};
 ghost use Rattle.dns_tools.specs.Status.{status_of, end_of, status_of_turns};
-ghost use Rattle.dns_tools.specs.Status.{fault_text, text_of_kind, text_of_turn, text_of_stream};
+ghost use Rattle.dns_tools.specs.Status.{fault_text, text_of_kind};
 
 use clap::error::ErrorKind;
 use dns_name::NameFault;
-use dns_serve::{StreamFault, TurnFault};
 use std::alloc::{AllocError, AllocFailed};
 use thiserror::Error;
 
@@ -138,51 +137,5 @@ impl<T: Drop> From<AllocFailed<T>> for FaultText {
 
     fn from(_refused: AllocFailed<T>) -> FaultText {
         FaultText::NoMemory
-    }
-}
-
-/// What a server prints on standard error if a turn ends early. The texts are printed literally.
-#[derive(Clone, Copy, Debug, PartialEq, Eq, Error)]
-pub enum TurnFaultText {
-    /// No datagram was received.
-    #[error("U1")]
-    NoDatagram,
-    /// A reply could not be sent.
-    #[error("U2")]
-    NotSent,
-    /// No connection was accepted.
-    #[error("accept")]
-    NotAccepted,
-    /// A stream could not be read.
-    #[error("S1")]
-    StreamNotRead,
-    /// A stream could not be written.
-    #[error("S2")]
-    StreamNotWritten,
-    /// A stream ended inside a length or a message.
-    #[error("S3")]
-    StreamCut,
-}
-
-impl From<TurnFault> for TurnFaultText {
-    ghost from_gives = { λ fault text. text ≡ text_of_turn fault };
-
-    fn from(fault: TurnFault) -> TurnFaultText {
-        match fault {
-            TurnFault::ReceiveFailed => TurnFaultText::NoDatagram,
-            TurnFault::SendFailed => TurnFaultText::NotSent,
-        }
-    }
-}
-
-impl From<StreamFault> for TurnFaultText {
-    ghost from_gives = { λ fault text. text ≡ text_of_stream fault };
-
-    fn from(fault: StreamFault) -> TurnFaultText {
-        match fault {
-            StreamFault::SourceFailed => TurnFaultText::StreamNotRead,
-            StreamFault::SinkFailed => TurnFaultText::StreamNotWritten,
-            StreamFault::Cut => TurnFaultText::StreamCut,
-        }
     }
 }

@@ -3,8 +3,9 @@
 #![tactic(auto)]
 
 use dns_name::Tally;
-use dns_tools::{FaultText, Nonblocking, end, end_of, finish, given_words, run_message};
-use std::io::{self, BufWriter};
+use dns_tools::{
+    FaultText, Nonblocking, buffered_stream, end, end_of, finish, given_words, run_message,
+};
 use std::process::ExitCode;
 use std::rt::Env;
 use std::time::Clock;
@@ -19,10 +20,8 @@ fn print<R: Env + Input + Print + Clock + AllocGlobal>(rt: &R) -> Result<u8, Fau
     if !given_words(rt)?.is_empty() {
         return Err(FaultText::Usage);
     }
-    let output = BufWriter::new(alloc, Nonblocking::new(io::writer(rt), rt));
-    let mut sink = Tally::new(output.map_err(|_| FaultText::NoMemory)?);
+    let mut sink = Tally::new(buffered_stream(rt, rt)?);
     let mut source = Tally::new(Nonblocking::new(rt.reader(), rt));
     let outcome = run_message(alloc, &mut source, &mut sink);
-    let (outcome, _device) = finish(outcome, sink.into_inner());
-    end_of(outcome)
+    end_of(finish(outcome, sink.into_inner()).0)
 }

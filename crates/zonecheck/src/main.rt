@@ -5,9 +5,9 @@
 
 use dns_name::Tally;
 use dns_tools::{
-    FaultText, Nonblocking, check_words, check_zone, end, end_of, finish, given_words, open_file,
+    FaultText, buffered_stream, check_words, check_zone, end, end_of, finish, given_words,
+    open_file,
 };
-use std::io::{self, BufWriter};
 use std::process::ExitCode;
 use std::rt::{Env, Files};
 use std::time::Clock;
@@ -22,10 +22,7 @@ fn check<R: Env + Files + Print + Clock + AllocGlobal>(rt: &R) -> Result<u8, Fau
     let words = given_words(rt)?;
     let words = check_words(alloc, words.as_slice())?;
     let mut source = Tally::new(open_file(rt, words.file)?);
-    let output = BufWriter::new(alloc, Nonblocking::new(io::writer(rt), rt));
-    let output = output.map_err(|_| FaultText::NoMemory)?;
-    let mut sink = Tally::new(output);
+    let mut sink = Tally::new(buffered_stream(rt, rt)?);
     let outcome = check_zone(alloc, &words.origin, words.flags, &mut source, &mut sink);
-    let (outcome, _device) = finish(outcome, sink.into_inner());
-    end_of(outcome)
+    end_of(finish(outcome, sink.into_inner()).0)
 }

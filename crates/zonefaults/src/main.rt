@@ -3,9 +3,9 @@
 
 use dns_name::Tally;
 use dns_tools::{
-    FaultText, Nonblocking, check_words, end, end_of, finish, given_words, list_faults, open_file,
+    FaultText, buffered_stream, check_words, end, end_of, finish, given_words, list_faults,
+    open_file,
 };
-use std::io::{self, BufWriter};
 use std::process::ExitCode;
 use std::rt::{Env, Files};
 use std::time::Clock;
@@ -23,10 +23,7 @@ fn list<R: Env + Files + Print + Clock + AllocGlobal>(rt: &R) -> Result<u8, Faul
         return Err(FaultText::Usage);
     }
     let mut source = Tally::new(open_file(rt, words.file)?);
-    let output = BufWriter::new(alloc, Nonblocking::new(io::writer(rt), rt));
-    let output = output.map_err(|_| FaultText::NoMemory)?;
-    let mut sink = Tally::new(output);
+    let mut sink = Tally::new(buffered_stream(rt, rt)?);
     let outcome = list_faults(alloc, &words.origin, &mut source, &mut sink);
-    let (outcome, _device) = finish(outcome, sink.into_inner());
-    end_of(outcome)
+    end_of(finish(outcome, sink.into_inner()).0)
 }

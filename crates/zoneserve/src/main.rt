@@ -62,16 +62,9 @@ where
         }
         Service::Tcp { address, turns } => {
             let sockets = Epoll::new(rt, listener_at(rt, address)?, None)?;
-            serve_connections(
-                rt.alloc(),
-                zone,
-                sockets,
-                *turns,
-                MOST_MESSAGES,
-                Capacity::One,
-                || Ok::<(), FaultText>(()),
-            )?
-            .finish()
+            let (most, capacity) = (MOST_MESSAGES, Capacity::One);
+            let begin = || Ok::<(), FaultText>(());
+            serve_connections(rt.alloc(), zone, sockets, *turns, most, capacity, begin)?.finish()
         }
     };
     Ok(status_of_turns(are_said))

@@ -4,6 +4,7 @@ use dns_samples_tests::SMALL;
 use dns_zone::Zone;
 use dns_zone_tests::zone_of;
 use std::alloc::{AllocError, Global};
+use std::ops::Range;
 use std::process::Abort;
 use std::test::Fail;
 
@@ -23,12 +24,6 @@ const ABSENT: &[u8] = b"\x00\x00";
 
 // The beginning of a frame.
 const PART: &[u8] = b"\x00\x1d\x12";
-
-// Peers that ask, and peers that neither send nor end. These alone are more than may be connected at
-// once.
-const ASKING: u16 = 240;
-
-const SILENT: u16 = 270;
 
 fn add_query(input: &mut Vec<u8>, id: u16) -> Result<(), AllocError> {
     input.extend_from_slice(b"\x00\x1d")?;
@@ -110,30 +105,26 @@ fn check_closed<A: Abort>(
     Ok((queries, over))
 }
 
-// Sockets to which the peers that ask and those that are silent connect.
-fn crowd<A: Abort>(rt: &A, alloc: Global) -> Result<Table<'_, A>, AllocError> {
+// Sockets to which the peers with these numbers connect, after some that are silent.
+fn peers<A: Abort>(
+    rt: &A,
+    alloc: Global,
+    asking: Range<u16>,
+    silent_ones: u16,
+) -> Result<Table<'_, A>, AllocError> {
     let mut table = Table::new(rt, alloc);
-    for number in 0..ASKING {
-        table.add(peer(alloc, number)?)?;
+    for number in asking {
+        table.plans.push(peer(alloc, number)?)?;
     }
-    for _ in 0..SILENT {
-        table.add(silent(alloc))?;
+    for _ in 0..silent_ones {
+        table.plans.push(silent(alloc))?;
     }
-    Ok(table)
-}
-
-// Sockets to which five peers connect, after one that asks nothing.
-fn queue<A: Abort>(rt: &A, alloc: Global) -> Result<Table<'_, A>, AllocError> {
-    let mut table = Table::new(rt, alloc);
-    for number in 1..6 {
-        table.add(peer(alloc, number)?)?;
-    }
-    table.add(silent(alloc))?;
     Ok(table)
 }
 
 fn check_crowd<A: Abort>(rt: &A, alloc: Global, zone: &Zone) -> Result<(), AllocError> {
-    let table = crowd(rt, alloc)?;
+    // The silent peers alone are more than may be connected at once.
+    let table = peers(rt, alloc, 0..240, 270)?;
     let begin = || Ok::<(), AllocError>(());
     let table = serve_connections(alloc, zone, table, 510, u64::MAX, Capacity::Many, begin)?;
     assert!(rt; table.closed.len() == 510 && table.plans.is_empty() && table.refusals == 0);
@@ -149,7 +140,7 @@ fn check_crowd<A: Abort>(rt: &A, alloc: Global, zone: &Zone) -> Result<(), Alloc
 const SENT: [usize; 6] = [0, 0, 94, 94, 94, 47];
 
 fn check_queue<A: Abort>(rt: &A, alloc: Global, zone: &Zone) -> Result<(), AllocError> {
-    let table = queue(rt, alloc)?;
+    let table = peers(rt, alloc, 1..6, 1)?;
     let begin = || Ok::<(), AllocError>(());
     let table = serve_connections(alloc, zone, table, 6, 2, Capacity::One, begin)?;
     assert!(rt; table.closed.len() == 6 && table.connected == 0 && table.most == 1);
@@ -160,24 +151,18 @@ fn check_queue<A: Abort>(rt: &A, alloc: Global, zone: &Zone) -> Result<(), Alloc
     Ok(())
 }
 
+// Nothing is served if `begin` fails.
+fn check_begin<A: Abort>(rt: &A, alloc: Global, zone: &Zone) -> Result<(), AllocError> {
+    let begin = || Err::<(), AllocError>(AllocError);
+    let table = peers(rt, alloc, 1..6, 1)?;
+    assert!(rt; serve_connections(alloc, zone, table, 6, 2, Capacity::One, begin).is_err());
+    Ok(())
+}
+
 #[test]
 fn each_peer_gets_the_replies_to_its_own_queries(rt: HostRuntime) -> Result<(), Fail> {
     let zone = zone_of(rt.alloc(), b"example", SMALL, "")?;
     check_crowd(&rt, rt.alloc(), &zone)?;
-    Ok(())
-}
-
-// Nothing is served if `begin` fails.
-fn check_begin<A: Abort>(rt: &A, alloc: Global, zone: &Zone) -> Result<(), AllocError> {
-    let begin = || Err::<(), AllocError>(AllocError);
-    let table = serve_connections(alloc, zone, queue(rt, alloc)?, 6, 2, Capacity::One, begin);
-    assert!(rt; table.is_err());
-    Ok(())
-}
-
-#[test]
-fn one_peer_waits_for_another(rt: HostRuntime) -> Result<(), Fail> {
-    let zone = zone_of(rt.alloc(), b"example", SMALL, "")?;
     check_queue(&rt, rt.alloc(), &zone)?;
     check_begin(&rt, rt.alloc(), &zone)?;
     Ok(())

@@ -4,7 +4,7 @@ ghost use Rattle.std.specs.Prelude.{◌≡◌};
 use dns_connections::{Found, Sockets, Stopped, Stream};
 use dns_serve::StreamFault;
 use dns_zone::Zone;
-use std::alloc::{AllocError, Global};
+use std::alloc::Global;
 use std::process::Abort;
 use std::time::Duration;
 
@@ -20,13 +20,13 @@ pub(super) struct Plan {
     pub(super) is_silent: bool,
 }
 
-/// A connection to such a peer.
+/// A connection to such a peer: what it has received and sent, and whether its input is over.
 #[derive(Drop)]
 pub(super) struct Talk {
     plan: Plan,
-    received: Vec<u8>,
-    sent: Vec<u8>,
-    is_over: bool,
+    pub(super) received: Vec<u8>,
+    pub(super) sent: Vec<u8>,
+    pub(super) is_over: bool,
     // Whether the next call would block.
     blocks: bool,
 }
@@ -42,10 +42,7 @@ impl Talk {
         if self.blocks {
             return Err(Stopped::WouldBlock);
         }
-        match self.plan.calls.checked_sub(1) {
-            Some(calls) => self.plan.calls = calls,
-            None => return Err(Stopped::Failed),
-        }
+        self.plan.calls = self.plan.calls.checked_sub(1).ok_or(Stopped::Failed)?;
         Ok(())
     }
 }
@@ -86,14 +83,6 @@ impl Stream for Talk {
     }
 }
 
-/// What a closed connection had received and sent, and whether its input was over.
-#[derive(Drop)]
-pub(super) struct Closed {
-    pub(super) received: Vec<u8>,
-    pub(super) sent: Vec<u8>,
-    pub(super) is_over: bool,
-}
-
 /// Sockets to which peers connect, the last one first. Each wait finds all of them.
 #[derive(Drop)]
 pub(super) struct Table<'a, A: Abort> {
@@ -101,7 +90,7 @@ pub(super) struct Table<'a, A: Abort> {
     alloc: Global,
     pub(super) plans: Vec<Plan>,
     pub(super) connected: usize,
-    pub(super) closed: Vec<Closed>,
+    pub(super) closed: Vec<Talk>,
     pub(super) faults: u32,
     pub(super) refusals: u32,
     // The most connections at once so far.
@@ -127,11 +116,6 @@ impl<'a, A: Abort> Table<'a, A> {
             found: 0,
             millis: 0,
         }
-    }
-
-    pub(super) fn add(&mut self, plan: Plan) -> Result<(), AllocError> {
-        self.plans.push(plan)?;
-        Ok(())
     }
 }
 
@@ -167,27 +151,18 @@ impl<A: Abort> Sockets for Table<'_, A> {
         if place == self.keys {
             return Some(Found::Connection);
         }
-        let key = if self.millis % 2 == 0 {
-            place
-        } else {
-            self.keys - 1 - place
-        };
+        let falls = self.millis % 2 == 1;
         Some(Found::Peer {
-            key,
+            key: if falls { self.keys - 1 - place } else { place },
             has_input: true,
             has_ended: true,
         })
     }
 
     fn accept(&mut self) -> Result<Talk, Stopped> {
-        let Some(plan) = self.plans.pop() else {
-            return Err(Stopped::WouldBlock);
-        };
-        let Some(connected) = self.connected.checked_add(1) else {
-            return Err(Stopped::Failed);
-        };
-        self.connected = connected;
-        self.most = self.most.max(connected);
+        let plan = self.plans.pop().ok_or(Stopped::WouldBlock)?;
+        self.connected = self.connected.checked_add(1).ok_or(Stopped::Failed)?;
+        self.most = self.most.max(self.connected);
         Ok(Talk {
             plan,
             received: Vec::new(self.alloc),
@@ -203,19 +178,8 @@ impl<A: Abort> Sockets for Table<'_, A> {
     }
 
     fn close(&mut self, _zone: &Zone, _most: u64, stream: Talk) {
-        let Talk {
-            received,
-            sent,
-            is_over,
-            ..
-        } = stream;
         self.connected = self.connected.saturating_sub(1);
-        let closed = Closed {
-            received,
-            sent,
-            is_over,
-        };
-        if self.closed.push(closed).is_err() {
+        if self.closed.push(stream).is_err() {
             panic!(self.rt; "no memory");
         }
     }

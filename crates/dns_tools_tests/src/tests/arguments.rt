@@ -107,41 +107,32 @@ fn is_taken(alloc: Global, origin: &str, file: &str, octets: &[u8]) -> Result<bo
     Ok((said.origin.octets() == octets) & (said.file == file))
 }
 
-// Services at an address, and the arguments that ask for them.
-const SERVICES: &[(&str, Service<'static>)] = &[
-    (
-        "udp,[::1]:53,1,example,zone",
-        Service::Udp {
-            address: "[::1]:53",
-            turns: 1,
-        },
-    ),
+// Arguments that ask for a service at an address: the transport, the address and the turns.
+const SERVICES: &[(&str, Limit, &str, u32)] = &[
+    ("udp,[::1]:53,1,example,zone", Limit::Udp, "[::1]:53", 1),
     (
         "tcp,127.0.0.1:53,1000000,example,zone",
-        Service::Tcp {
-            address: "127.0.0.1:53",
-            turns: 1_000_000,
-        },
+        Limit::Tcp,
+        "127.0.0.1:53",
+        1_000_000,
     ),
-    (
-        "tcp,-a,7,example,zone",
-        Service::Tcp {
-            address: "-a",
-            turns: 7,
-        },
-    ),
-    (
-        "udp,--,7,example,zone",
-        Service::Udp {
-            address: "--",
-            turns: 7,
-        },
-    ),
+    ("tcp,-a,7,example,zone", Limit::Tcp, "-a", 7),
+    ("udp,--,7,example,zone", Limit::Udp, "--", 7),
 ];
 
-fn asks_for(alloc: Global, line: &str, service: Service<'_>) -> Result<bool, Fail> {
+fn asks_for(
+    alloc: Global,
+    line: &str,
+    transport: Limit,
+    address: &str,
+    turns: u32,
+) -> Result<bool, Fail> {
     let words = words_of(alloc, line)?;
     let said = serve_words(alloc, words.as_slice())?;
+    let service = match transport {
+        Limit::Udp => Service::Udp { address, turns },
+        Limit::Tcp => Service::Tcp { address, turns },
+    };
     Ok((said.service == service) & (said.file == "zone"))
 }
 
@@ -166,8 +157,11 @@ fn command_lines_that_are_taken(rt: HostRuntime) -> Result<(), Fail> {
     for &(origin, file, octets) in TAKEN {
         assert!(rt; is_taken(rt.alloc(), origin, file, octets)?, "{origin}");
     }
-    for &(line, service) in SERVICES {
-        assert!(rt; asks_for(rt.alloc(), line, service)?, "{line}");
+    for &(line, transport, address, turns) in SERVICES {
+        assert!(rt;
+            asks_for(rt.alloc(), line, transport, address, turns)?,
+            "{line}"
+        );
     }
     for &(line, transport, turns) in TAKEN_WITH_SOCKET {
         assert!(rt;

@@ -43,18 +43,6 @@ pub(super) fn is_report(
     has_ended(source, sink, outcome, wanted)
 }
 
-// Whether the check of a zone `example.` has the wanted outcome and report.
-fn is_checked(
-    alloc: Global,
-    flags: Flags,
-    text: &str,
-    devices: Devices,
-    wanted: (Outcome, &[u8]),
-) -> Result<bool, Fail> {
-    let origin = example()?;
-    Ok(is_report(alloc, &origin, flags, text, devices, wanted))
-}
-
 // Whether a zone with this text passes or fails as `passes` says, and this is its report.
 fn judges(
     alloc: Global,
@@ -64,7 +52,7 @@ fn judges(
     report: &str,
 ) -> Result<bool, Fail> {
     let wanted = (Ok(passes), report.as_bytes());
-    is_checked(alloc, flags, text, all_work(4096), wanted)
+    Ok(is_report(alloc, &example()?, flags, text, all_work(4096), wanted))
 }
 
 // Zones that pass. Printed text is its own canonical text.
@@ -82,8 +70,9 @@ fn a_zone_that_passes(rt: HostRuntime) -> Result<(), Fail> {
     for &(flags, text, report) in PASSING {
         for most in [1, 4096] {
             let wanted = (Ok(true), report.as_bytes());
-            let is_checked = is_checked(rt.alloc(), flags, text, all_work(most), wanted)?;
-            assert!(rt; is_checked, "{text} with {flags:?}");
+            let origin = example()?;
+            let is_report = is_report(rt.alloc(), &origin, flags, text, all_work(most), wanted);
+            assert!(rt; is_report, "{text} with {flags:?}");
         }
     }
     Ok(())
@@ -200,17 +189,12 @@ fn faulty_files(rt: HostRuntime) -> Result<(), Fail> {
 
 fn is_cut(alloc: Global, writes: u32) -> Result<bool, Fail> {
     let wanted = (Err(Stop::Sink), front(LOADED.as_bytes(), writes));
-    is_checked(alloc, PLAIN, SMALL, (1, 1000, writes), wanted)
+    Ok(is_report(alloc, &example()?, PLAIN, SMALL, (1, 1000, writes), wanted))
 }
 
 fn is_unread(alloc: Global, reads: u32) -> Result<bool, Fail> {
-    is_checked(
-        alloc,
-        PRINT,
-        SMALL,
-        (64, reads, 1000),
-        (Err(Stop::Source), b""),
-    )
+    let wanted = (Err(Stop::Source), b"".as_slice());
+    Ok(is_report(alloc, &example()?, PRINT, SMALL, (64, reads, 1000), wanted))
 }
 
 #[test]

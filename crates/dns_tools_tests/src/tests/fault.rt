@@ -1,6 +1,7 @@
 use dns_serve::{StreamFault, TurnFault};
-use dns_tools::{FaultText, Stop, TurnFaultText, exit_status};
+use dns_tools::{FaultText, Stop, exit_status};
 use std::alloc::Global;
+use std::fmt::Display;
 use std::test::Fail;
 
 #[test]
@@ -12,37 +13,23 @@ fn statuses_of_an_engine(rt: HostRuntime) {
     }
 }
 
-const TEXTS: &[(FaultText, &str)] = &[
-    (FaultText::Usage, "usage"),
-    (FaultText::BadOrigin, "bad origin"),
-    (FaultText::NoMemory, "no memory"),
-    (FaultText::SourceFailed, "R16"),
-    (FaultText::SinkFailed, "P1"),
-    (FaultText::NotBound, "bind"),
-];
-
-fn shows(alloc: Global, word: TurnFaultText, text: &str) -> Result<bool, Fail> {
-    Ok(word.to_string(alloc)?.as_str() == text)
+fn shows(alloc: Global, fault: impl Display + Drop, text: &str) -> Result<bool, Fail> {
+    Ok(fault.to_string(alloc)?.as_str() == text)
 }
 
 #[test]
-fn texts_of_the_words(rt: HostRuntime) -> Result<(), Fail> {
-    for &(word, text) in TEXTS {
-        let shown = word.to_string(rt.alloc())?;
-        assert_eq!(rt; shown.as_str(), text);
-    }
-    assert!(rt; shows(rt.alloc(), TurnFault::ReceiveFailed.into(), "U1")?);
-    assert!(rt; shows(rt.alloc(), TurnFault::SendFailed.into(), "U2")?);
-    assert!(rt; shows(rt.alloc(), TurnFaultText::NotAccepted, "accept")?);
-    assert!(rt; shows(rt.alloc(), StreamFault::SourceFailed.into(), "S1")?);
-    assert!(rt; shows(rt.alloc(), StreamFault::SinkFailed.into(), "S2")?);
-    assert!(rt; shows(rt.alloc(), StreamFault::Cut.into(), "S3")?);
+fn texts_of_faults(rt: HostRuntime) -> Result<(), Fail> {
+    let alloc = rt.alloc();
+    assert!(rt; shows(alloc, FaultText::Usage, "usage")?);
+    assert!(rt; shows(alloc, FaultText::BadOrigin, "bad origin")?);
+    assert!(rt; shows(alloc, FaultText::from(Stop::Memory), "no memory")?);
+    assert!(rt; shows(alloc, FaultText::from(Stop::Source), "R16")?);
+    assert!(rt; shows(alloc, FaultText::from(Stop::Sink), "P1")?);
+    assert!(rt; shows(alloc, FaultText::NotBound, "bind")?);
+    assert!(rt; shows(alloc, TurnFault::ReceiveFailed, "U1")?);
+    assert!(rt; shows(alloc, TurnFault::SendFailed, "U2")?);
+    assert!(rt; shows(alloc, StreamFault::SourceFailed, "S1")?);
+    assert!(rt; shows(alloc, StreamFault::SinkFailed, "S2")?);
+    assert!(rt; shows(alloc, StreamFault::Cut, "S3")?);
     Ok(())
-}
-
-#[test]
-fn the_word_of_a_stop(rt: HostRuntime) {
-    assert_eq!(rt; FaultText::from(Stop::Memory), FaultText::NoMemory);
-    assert_eq!(rt; FaultText::from(Stop::Source), FaultText::SourceFailed);
-    assert_eq!(rt; FaultText::from(Stop::Sink), FaultText::SinkFailed);
 }

@@ -20,16 +20,6 @@ pub(super) fn sample(alloc: Global) -> Result<Zone, Fail> {
 // How a text is given: the most octets of a piece, and how many calls work before one fails.
 type Given = (usize, u32);
 
-// What the loader makes of a text.
-fn loaded(
-    alloc: Global,
-    text: &[u8],
-    (most, calls): Given,
-) -> Result<Result<Zone, LoadFault>, Fail> {
-    let mut source = Tally::new(Pieces::new(text, most, calls));
-    Ok(load_zone(alloc, &example()?, &mut source))
-}
-
 // Whether this is the report on a refusal.
 fn is_report(alloc: Global, refusal: &Refusal, wanted: &str) -> Result<bool, Fail> {
     let mut sink = Tally::new(Kept::new(alloc, 7, 1_000_000));
@@ -42,10 +32,11 @@ fn is_report(alloc: Global, refusal: &Refusal, wanted: &str) -> Result<bool, Fai
 fn is_loaded(
     alloc: Global,
     text: &[u8],
-    given: Given,
+    (most, calls): Given,
     wanted: Result<u32, &str>,
 ) -> Result<bool, Fail> {
-    match loaded(alloc, text, given)? {
+    let mut source = Tally::new(Pieces::new(text, most, calls));
+    match load_zone(alloc, &example()?, &mut source) {
         Ok(zone) => Ok(wanted == Ok(zone.serial())),
         Err(LoadFault::Refused(refusal)) => is_report(alloc, &refusal, wanted.err().unwrap_or("")),
         Err(LoadFault::Stopped(stop)) => Ok(stop == Stop::Source && wanted == Err("")),

@@ -87,39 +87,34 @@ fn device<'a>(alloc: Global, fails_at: u32, faults: u64) -> Asking<'a>
     }
 }
 
-// Which call fails, whether all diagnostics are written, and how many the server tries to write.
-const SAID: &[(u32, bool, u32)] = &[(9, true, 0), (0, false, 1), (5, false, 1)];
+// Which call fails, how many turns fail, and how many calls are made in three turns.
+const TURNS: &[(u32, u32, u32)] = &[(9, 0, 6), (0, 1, 5), (3, 1, 6), (5, 1, 6)];
 
-// Whether three turns, at a standard error that takes nothing, send each reply but that of a failed
-// turn, and return `are_said` after `words` tries to write a diagnostic.
-fn go_on_unheard(alloc: Global, zone: &Zone, fails_at: u32, are_said: bool, words: u32) -> bool {
-    let calls = Cell::new(0);
+// Whether three turns return `are_said`, and send each reply but those of the turns that fail.
+fn go_on<E: Eprint>(
+    errors: &E,
+    alloc: Global,
+    zone: &Zone,
+    (fails_at, faults, calls): (u32, u32, u32),
+    are_said: bool,
+) -> bool {
     let mut device = device(alloc, fails_at, u64::MAX);
-    let errors = Refusing { calls: &calls };
-    serve_datagrams(&errors, zone, &mut device, 3) == are_said
-        && calls.get() == words
-        && device.mailbox.replies.len() == if fails_at < 9 { 2 } else { 3 }
-        && device.failures() == u64::from(fails_at < 9)
-}
-
-// Which call fails, how many replies are sent in three turns, and how many calls are made.
-const TURNS: &[(u32, usize, u32)] = &[(9, 3, 6), (0, 2, 5), (3, 2, 6), (5, 2, 6)];
-
-// Whether three turns send `replies` replies in `calls` calls, and all diagnostics are written.
-fn go_on<R>(rt: &R, zone: &Zone, fails_at: u32, replies: usize, calls: u32) -> bool
-where
-    R: Eprint + AllocGlobal,
-{
-    let mut device = device(rt.alloc(), fails_at, u64::MAX);
-    serve_datagrams(rt, zone, &mut device, 3)
-        && device.mailbox.replies.len() == replies
+    serve_datagrams(errors, zone, &mut device, 3) == are_said
+        && device.failures() == u64::from(faults)
         && device.mailbox.calls == calls
-        && device.failures() == u64::from(fails_at < 9)
+        && device.mailbox.replies.len() == if faults == 0 { 3 } else { 2 }
         && device
             .mailbox
             .replies
             .iter()
             .all(|reply| reply.as_slice() == REPLY)
+}
+
+// Whether turns go on also if standard error takes nothing, to which each diagnostic is written once.
+fn go_on_unheard(alloc: Global, zone: &Zone, row: (u32, u32, u32)) -> bool {
+    let calls = Cell::new(0);
+    let errors = Refusing { calls: &calls };
+    go_on(&errors, alloc, zone, row, row.1 == 0) && calls.get() == row.1
 }
 
 // Whether a server that is asked to end at its second datagram takes no third turn, and says nothing.
@@ -140,13 +135,9 @@ fn turns_go_on(rt: HostRuntime) -> Result<(), Fail> {
 }
 
 fn check<R: Abort + Eprint + AllocGlobal>(rt: &R, zone: &Zone) {
-    for &(fails_at, are_said, words) in SAID {
-        let are_taken = go_on_unheard(rt.alloc(), zone, fails_at, are_said, words);
-        assert!(rt; are_taken, "unheard, where call {fails_at} fails");
-    }
-    for &(fails_at, replies, calls) in TURNS {
-        let are_taken = go_on(rt, zone, fails_at, replies, calls);
-        assert!(rt; are_taken, "where call {fails_at} fails");
+    for &row in TURNS {
+        assert!(rt; go_on(rt, rt.alloc(), zone, row, true), "{row:?}");
+        assert!(rt; go_on_unheard(rt.alloc(), zone, row), "{row:?} unheard");
     }
     assert!(rt; ends_when_asked(rt.alloc(), zone));
 }

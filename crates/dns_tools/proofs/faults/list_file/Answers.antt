@@ -1,17 +1,29 @@
 use Rattle.std.specs.Vec.{vec_len}
-use Rattle.dns_tools.proofs.Common.{◌≡◌, ◌==◌, length, arith, ap, ◌∙◌}
+use Rattle.dns_tools.proofs.Common.{◌≡◌, ◌==◌, length, arith, ap, ◌∙◌, Appends-trans, beginning_of_first, beginning_of_second}
 use Rattle.dns_tools.proofs.Listing.{file_list, file_begun, file_listed, faults_count, first_empty, first_full}
 use Rattle.dns_tools.proofs.faults.list_file.Goals.{then-is_empty, else-is_empty}
 use Rattle.dns_tools.proofs.faults.list_file.Goals as goal
 
-pub returns-in_err-write_list-clause-report : goal.returns-in_err-write_list-clause-report
-returns-in_err-write_list-clause-report g c =
-    let stopped = c.from_residual-in_err-write_list in
+pub returns-in_err-write_entry_faults-clause-report :
+    goal.returns-in_err-write_entry_faults-clause-report
+returns-in_err-write_entry_faults-clause-report g c =
+    let stopped = c.from_residual-in_err-write_entry_faults in
     file_begun _ _ stopped.result
     (file_list c.args.origin.now c.fold.result c.args.text.now c.in_ok-list.list _ _ _ _
     c.fold.ensures c.new-store.ensures c.in_ok-list.ensures c.in_ok-zone_faults.ensures.ok
     c.listed-zone.ensures)
-    stopped.ensures.1 c.in_err-write_list.ensures.err
+    stopped.ensures.1 (beginning_of_first _ _ _ _ c.in_err-write_entry_faults.ensures.err)
+
+pub returns-in_err-write_check_faults-clause-report :
+    goal.returns-in_err-write_check_faults-clause-report
+returns-in_err-write_check_faults-clause-report g c =
+    let stopped = c.from_residual-in_err-write_check_faults in
+    file_begun _ _ stopped.result
+    (file_list c.args.origin.now c.fold.result c.args.text.now c.in_ok-list.list _ _ _ _
+    c.fold.ensures c.new-store.ensures c.in_ok-list.ensures c.in_ok-zone_faults.ensures.ok
+    c.listed-zone.ensures)
+    stopped.ensures.1 (beginning_of_second _ _ _ _ _ c.in_ok-write_entry_faults.ensures.ok
+    c.in_err-write_check_faults.ensures.err)
 
 pub returns-clause-report : goal.returns-clause-report
 returns-clause-report g c =
@@ -28,4 +40,5 @@ returns-clause-report g c =
           w.result-is
       | else-is_empty w ↦ first_full _ _ first w.if-is_empty.false w.result-is
     ])
-    c.in_ok-write_list.ensures.ok
+    (Appends-trans _ _ _ _ _ c.in_ok-write_entry_faults.ensures.ok
+    c.in_ok-write_check_faults.ensures.ok)

@@ -6,12 +6,14 @@ pub records-preserved : goal.records-preserved
 records-preserved g c =
     piece_written (section_line c.args.section.now) c.args.records.now
     c.records-test.true c.record-item.is c.records.invariant
-    (ap parts_text c.as_slice.ensures ∙ section_written _ _ _ _ c.record.view_is c.from.ensures)
+    (ap parts_text c.as_slice.ensures
+    ∙ section_written _ _ _ _ c.borrowed.ensures.value c.record.view_is c.from.ensures)
     c.in_ok-write_parts.ensures
 
 pub returns-in_err-write_parts : goal.returns-in_err-write_parts
 returns-in_err-write_parts g c =
     piece_begun (section_line c.args.section.now) c.args.records.now
     c.records-test.true c.record-item.is c.records.invariant
-    (ap parts_text c.as_slice.ensures ∙ section_written _ _ _ _ c.record.view_is c.from.ensures)
+    (ap parts_text c.as_slice.ensures
+    ∙ section_written _ _ _ _ c.borrowed.ensures.value c.record.view_is c.from.ensures)
     c.in_err-write_parts.ensures c.from_residual.ensures.0
