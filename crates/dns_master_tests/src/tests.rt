@@ -6,4 +6,3 @@ mod many_words;
 mod pieces;
 mod reading;
 mod records;
-mod zone;

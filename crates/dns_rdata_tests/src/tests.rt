@@ -1,10 +1,6 @@
 mod addresses;
-mod number;
 mod rdata;
 mod said;
-mod set;
-mod string;
 mod types;
-mod unknown;
 mod words;
 mod write;

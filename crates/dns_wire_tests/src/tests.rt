@@ -1,5 +1,3 @@
-mod long;
 mod plain;
 mod reading;
 mod writing;
-mod written;

@@ -7,4 +7,4 @@
 mod tests;
 mod zones;
 
-pub use zones::{built, zone_of};
+pub use zones::{built, deep, wide, zone_of};

@@ -1,50 +1,23 @@
 //! Faults of long files: `R14` and `R15`, and faults that take precedence over them.
 
-use super::reading::{Row, fault, repeated};
-use std::alloc::{AllocError, Global};
+use super::reading::{fault, is_fault, repeated};
+use std::alloc::AllocError;
 use std::test::Fail;
 
 const MOST_FILE_OCTETS: usize = 16_777_216;
 
-const RECORD: &[u8] = b"a A 192.0.2.1\n";
-
-// The last octets up to the limit, on the second line; the octets after it; and the fault.
-type Limit<'a> = (&'a [u8], &'a [u8], (u8, u32));
-
-const LIMITS: &[Limit<'static>] = &[
-    (b"", b"", (0, 0)),
-    (b"", b"x", (15, 2)),
-    (b"\n", b"x", (15, 3)),
-    (b"a", b" ", (15, 2)),
-    (b";", b"x", (15, 2)),
-    (b" ", b"\n", (15, 2)),
-    (b"\\", b"", (2, 2)),
-    (b"\\", b"x", (15, 2)),
-    (b"\\3", b"", (2, 2)),
-    (b"\\3", b"00", (15, 2)),
-    (b"\\26", b"0", (15, 2)),
-    (b"\\99", b"9", (15, 2)),
-    (b"\\1x", b"0", (2, 2)),
-    (b"\\256", b"0", (2, 2)),
-    (b"\r", b"", (1, 2)),
-    (b"\r", b"\n", (15, 2)),
-    (b"\r", b"x", (15, 2)),
-    (b"\rx", b"x", (1, 2)),
-    (b"\x00", b"x", (1, 2)),
-    (b"\"a", b"", (3, 2)),
-    (b"\"a", b"\"", (15, 2)),
-    (b"\"a\\", b"\"", (15, 2)),
-    (b"\"a\r", b"\n", (15, 2)),
-    (b"\"a\n", b"\"", (3, 2)),
-    (b"\"a\r\n", b"\"", (3, 2)),
-    (b"(", b"", (4, 2)),
-    (b"(", b")", (15, 2)),
-    (b"((", b")", (4, 2)),
-    (b")", b"x", (4, 2)),
-    (b"$X", b"\n", (15, 2)),
-    (b"$X\n", b"\n", (5, 2)),
-    (b"a 1 A 192.0.2.1", b"", (0, 0)),
-    (b"a 1 A 192.0.2.1", b"0", (15, 2)),
+// A fault as code and line, and the ends of files that have it, each after `|`: their second lines,
+// with `^` after the last octet up to the limit.
+const LIMITS: &[&[u8]] = &[
+    b"0:0|^|a 1 A 192.0.2.1^",
+    b"15:2|^x|a^ |;^x| ^\n|\\^x|\\3^00|\\26^0|\\99^9|\r^\n|\r^x|\"a^\"|\"a\\^\"|\"a\r^\n|(^)|$X^\n",
+    b"15:2|a 1 A 192.0.2.1^0",
+    b"15:3|\n^x",
+    b"1:2|\r^|\rx^x|\0^x",
+    b"2:2|\\^|\\3^|\\1x^0|\\256^0",
+    b"3:2|\"a^|\"a\n^\"|\"a\r\n^\"",
+    b"4:2|(^|((^)|)^x",
+    b"5:2|$X\n^\n",
 ];
 
 // Makes a text whose first line is a comment, and whose octets up to the limit end with `within`.
@@ -59,11 +32,16 @@ fn fill(text: &mut Vec<u8>, within: &[u8], beyond: &[u8]) -> Result<(), AllocErr
 #[test]
 fn what_stands_at_the_limit(rt: HostRuntime) -> Result<(), Fail> {
     let mut text = Vec::new(rt.alloc());
-    for &(within, beyond, wanted) in LIMITS {
-        fill(&mut text, within, beyond)?;
-        assert!(rt; text.len() == MOST_FILE_OCTETS.saturating_add(beyond.len()));
-        let holds = fault(rt.alloc(), text.as_slice()) == wanted;
-        assert!(rt; holds, "at {within:?} and {beyond:?}");
+    for row in LIMITS {
+        let mut ends = row.split(|octet| *octet == b'|');
+        let wanted = ends.next().unwrap_or(&[]);
+        for end in ends {
+            let mut parts = end.split(|octet| *octet == b'^');
+            let within = parts.next().unwrap_or(&[]);
+            fill(&mut text, within, parts.next().ok_or("a limit")?)?;
+            let holds = is_fault(rt.alloc(), fault(rt.alloc(), &text), wanted);
+            assert!(rt; holds, "{wanted:?} of {end:?}");
+        }
     }
     Ok(())
 }
@@ -78,22 +56,17 @@ fn a_comment_as_long_as_a_file(rt: HostRuntime) -> Result<(), Fail> {
         text.truncate(0);
         text.push(first)?;
         text.resize(MOST_FILE_OCTETS, other)?;
-        assert!(rt; fault(rt.alloc(), text.as_slice()) == (0, 0), "of {other}");
+        assert!(rt; fault(rt.alloc(), &text) == (0, 0), "of {other}");
         text.push(other)?;
-        assert!(rt; fault(rt.alloc(), text.as_slice()) == wanted, "of {other}");
+        assert!(rt; fault(rt.alloc(), &text) == wanted, "of {other}");
     }
     Ok(())
 }
 
-// The fault of a file with `$TTL`, 100,000 records, and a last line.
-fn records_and(alloc: Global, last: &[u8]) -> Result<(u8, u32), AllocError> {
-    let mut text = repeated(alloc, b"$TTL 60\n", 1)?;
-    text.extend_from_slice(repeated(alloc, RECORD, 100_000)?.as_slice())?;
-    text.extend_from_slice(last)?;
-    Ok(fault(alloc, text.as_slice()))
-}
+const RECORD: &[u8] = b"a A 192.0.2.1\n";
 
-const LAST: &[Row<'static>] = &[
+// The end of a file with `$TTL` and 100,000 records, and the fault.
+const LAST: &[(&[u8], (u8, u32))] = &[
     (b"", (0, 0)),
     (b"\n; a A 192.0.2.1\n$TTL 1\n$ORIGIN .\n", (0, 0)),
     (RECORD, (14, 100_002)),
@@ -110,7 +83,8 @@ const LAST: &[Row<'static>] = &[
 #[test]
 fn what_stands_after_100000_records(rt: HostRuntime) -> Result<(), Fail> {
     for &(last, wanted) in LAST {
-        assert!(rt; records_and(rt.alloc(), last)? == wanted, "at {last:?}");
+        let text = repeated(rt.alloc(), b"$TTL 60\n", (RECORD, 100_000), last)?;
+        assert!(rt; fault(rt.alloc(), &text) == wanted, "at {last:?}");
     }
     Ok(())
 }

@@ -9,9 +9,6 @@ const CAPITALS: Labels<'static> = &[b"WWW", b"Example"];
 
 const EXAMPLE: Labels<'static> = &[b"example"];
 
-// A name below a wildcard.
-const BELOW: Labels<'static> = &[b"a", b"*", b"example"];
-
 // Labels that fill 255 octets on the wire.
 const LONGEST: Labels<'static> = &[&[b'a'; 63], &[b'b'; 63], &[b'c'; 63], &[b'd'; 61]];
 
@@ -40,11 +37,11 @@ fn has_labels(name: &NameRef<'_>, wanted: Labels<'_>) -> bool {
 
 // Labels, the octets of their name on the wire (RFC 1035 3.1), and whether the name is a wildcard.
 const PUSHED: &[(Labels<'static>, &[u8], bool)] = &[
-    (&[], b"\x00", false),
-    (WWW, b"\x03www\x07example\x00", false),
-    (&[b"*", b"example"], b"\x01*\x07example\x00", true),
-    (BELOW, b"\x01a\x01*\x07example\x00", false),
-    (&[b"**", b"example"], b"\x02**\x07example\x00", false),
+    (&[], b"\0", false),
+    (WWW, b"\x03www\x07example\0", false),
+    (&[b"*", b"example"], b"\x01*\x07example\0", true),
+    (&[b"a", b"*", b"example"], b"\x01a\x01*\x07example\0", false),
+    (&[b"**", b"example"], b"\x02**\x07example\0", false),
 ];
 
 // Whether the name of these labels, also borrowed, has these octets and is a wildcard as wanted.

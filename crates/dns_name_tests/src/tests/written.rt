@@ -38,47 +38,38 @@ fn canonical_order(rt: HostRuntime) {
     assert!(rt; is_ordered(b"z.a.example.", b"Z.A.Example.", Ordering::Equal));
 }
 
-// Whether the name of a word is written as a text.
+// Whether the name of a word is written as a text, and also without the final dot unless it is the
+// root.
 fn is_written(alloc: Global, word: &[u8], text: &[u8]) -> bool {
+    let name = read(word);
     let mut sink = Tally::new(Vec::new(alloc));
-    let result = read(word).write_text(&mut sink);
-    result.is_ok() && sink.into_inner().as_slice() == text
-}
-
-// Whether the name of a word is written as a text, without the final dot.
-fn is_bare(word: &[u8], text: &[u8]) -> bool {
     let mut buffer = TextBuffer::new();
-    read(word).append_bare_text(&mut buffer);
-    buffer.octets() == text
+    name.append_bare_text(&mut buffer);
+    let bare = match text {
+        [bare @ .., b'.'] if !bare.is_empty() => bare,
+        _ => text,
+    };
+    name.write_text(&mut sink).is_ok()
+        && sink.into_inner().as_slice() == text
+        && buffer.octets() == bare
 }
 
 // The word to read, and what is written for its name.
 const WRITTEN: &[(&[u8], &[u8])] = &[
     (b".", b"."),
+    (b"org.", b"org."),
     (b"WwW.Example", b"WwW.Example."),
+    (b"a.b\\..", b"a.b\\.."),
     (b"\\@", b"\\@."),
-    (
-        b"a\\.b.\\;\\(\\)\\$.\\\"\\\\",
-        b"a\\.b.\\;\\(\\)\\$.\\\"\\\\.",
-    ),
-    (b"\\032\\127.\\000\\255", b"\\032\\127.\\000\\255."),
-    (b"\\~\\!\\'", b"~!'."),
-];
-
-const BARE: &[(&[u8], &[u8])] = &[
-    (b".", b"."),
-    (b"org.", b"org"),
-    (b"WwW.Example.", b"WwW.Example"),
-    (b"a.b\\..", b"a.b\\."),
+    (b"a\\.b.\\;\\(\\)\\$", b"a\\.b.\\;\\(\\)\\$."),
+    (b"\\\"\\\\.\\032\\127", b"\\\"\\\\.\\032\\127."),
+    (b"\\000\\255.\\~\\!\\'", b"\\000\\255.~!'."),
 ];
 
 #[test]
 fn names_written(rt: HostRuntime) {
     for &(word, text) in WRITTEN {
         assert!(rt; is_written(rt.alloc(), word, text), "at {word:?}");
-    }
-    for &(word, text) in BARE {
-        assert!(rt; is_bare(word, text), "at {word:?}");
     }
 }
 

@@ -1,59 +1,44 @@
-ghost use Rattle.std.specs.Prelude.{◌≡◌, length, IfOk};
-ghost use Rattle.dns_spec.specs.Data.{Valid, parts};
+ghost use Rattle.std.specs.Prelude.{◌≡◌, IfOk};
+ghost use Rattle.dns_spec.specs.Data.{Valid};
 
-use dns_rdata::{Part, RType, Rdata};
+use crate::tests::said::SOA;
+use dns_rdata::Part::{self, Name, Octets};
+use dns_rdata::{RType, Rdata};
 use std::alloc::{AllocError, Global};
 use std::test::Fail;
 
-// Two names, then SERIAL, REFRESH, RETRY, EXPIRE and MINIMUM (RFC 1035 3.3.13).
-const SOA: &[u8] =
-    b"\x02ns\x00\x04mAIL\x01x\x00\x00\x00\x00\x01\x00\x00\x1c\x20\x00\x00\x03\x84\x00\x12\x75\x00\x00\x00\x01\x2c";
-
-// `SOA` without its last octet.
-const SOA_CUT: &[u8] =
-    b"\x02ns\x00\x04mAIL\x01x\x00\x00\x00\x00\x01\x00\x00\x1c\x20\x00\x00\x03\x84\x00\x12\x75\x00\x00\x00\x01";
-
+// `SOA` in lower case.
 const SOA_LOWERED: &[u8] =
-    b"\x02ns\x00\x04mail\x01x\x00\x00\x00\x00\x01\x00\x00\x1c\x20\x00\x00\x03\x84\x00\x12\x75\x00\x00\x00\x01\x2c";
+    b"\x02ns\0\x04mail\x01x\0\0\0\0\x01\0\0\x1c\x20\0\0\x03\x84\0\x12\x75\0\0\0\x01\x2c";
 
-// Types, octets, and the octets of the data that is read from them; `None` if they are invalid.
+// Types; octets, separated by `|`; and the octets of the data that is read from them, with names in
+// lower case, or `None` if they are invalid.
 const OCTETS: &[(RType, &[u8], Option<&[u8]>)] = &[
+    (RType::A, b"ABCD", Some(b"ABCD")),
+    (RType::NS, b"\0", Some(b"\0")),
+    (RType::CNAME, b"\x01A\0", Some(b"\x01a\0")),
+    (RType::PTR, b"\x01A\x02Bc\0", Some(b"\x01a\x02bc\0")),
     (RType::SOA, SOA, Some(SOA_LOWERED)),
-    (RType::SOA, SOA_CUT, None),
+    (RType::HINFO, b"\x01A\0", Some(b"\x01A\0")),
     (
         RType::MX,
-        b"\x00\x0a\x04Mail\x07example\x00",
-        Some(b"\x00\x0a\x04mail\x07example\x00"),
+        b"\0\x0a\x02Ma\x01A\0",
+        Some(b"\0\x0a\x02ma\x01a\0"),
     ),
-    (RType::A, b"ABCD", Some(b"ABCD")),
-    (RType::NS, b"\x00", Some(b"\x00")),
-    (RType::CNAME, b"\x01A\x00", Some(b"\x01a\x00")),
-    (RType::PTR, b"\x01A\x02Bc\x00", Some(b"\x01a\x02bc\x00")),
-    (RType::HINFO, b"\x01A\x00", Some(b"\x01A\x00")),
-    (RType::TXT, b"\x02AB\x00\x01C", Some(b"\x02AB\x00\x01C")),
+    (RType::TXT, b"\x02AB\0\x01C", Some(b"\x02AB\0\x01C")),
     (RType::AAAA, b"ABCDEFGHIJKLMNOP", Some(b"ABCDEFGHIJKLMNOP")),
-    (RType::SRV, b"AAAAAA\x01A\x00", Some(b"AAAAAA\x01a\x00")),
+    (RType::SRV, b"AAAAAA\x01A\0", Some(b"AAAAAA\x01a\0")),
     (RType(65), b"\x03ABC", Some(b"\x03ABC")),
     (RType(65), b"", Some(b"")),
     (RType(0), b"\xc0\x0c", Some(b"\xc0\x0c")),
-    (RType::A, b"ABC", None),
-    (RType::A, b"ABCDE", None),
-    (RType::NS, b"", None),
-    (RType::NS, b"\x00\x00", None),
-    (RType::NS, b"\x01A", None),
-    (RType::NS, b"\x02A\x00", None),
-    (RType::NS, b"\xc0\x0c", None),
-    (RType::NS, b"\x40\x00", None),
+    (RType::A, b"ABC|ABCDE", None),
+    (RType::NS, b"|\0\0|\x01A|\x02A\0|\xc0\x0c|\x40\0", None),
     (RType::CNAME, b"\x01A\xc0\x0c", None),
-    (RType::MX, b"\x00\x0a", None),
-    (RType::MX, b"\x00\x0a\x01A\x00\x00", None),
-    (RType::HINFO, b"\x01A", None),
-    (RType::HINFO, b"\x01A\x01A\x00", None),
-    (RType::TXT, b"", None),
-    (RType::TXT, b"\x02A", None),
+    (RType::HINFO, b"\x01A|\x01A\x01A\0", None),
+    (RType::MX, b"\0\x0a|\0\x0a\x01A\0\0", None),
+    (RType::TXT, b"|\x02A", None),
     (RType::AAAA, b"ABCDEFGHIJKLMNO", None),
-    (RType::SRV, b"AAAAAA", None),
-    (RType::SRV, b"AAAAAA\xc0\x0c", None),
+    (RType::SRV, b"AAAAAA|AAAAAA\xc0\x0c", None),
 ];
 
 // Whether octets are read as data `wanted` or, if that is `None`, fail with `NotOfType`.
@@ -66,9 +51,14 @@ fn is_data(alloc: Global, rtype: RType, octets: &[u8], wanted: Option<&[u8]>) ->
 
 #[test]
 fn octets_of_types(rt: HostRuntime) {
-    for &(rtype, octets, wanted) in OCTETS {
-        assert!(rt; is_data(rt.alloc(), rtype, octets, wanted), "at {octets:?}");
+    for &(rtype, rows, wanted) in OCTETS {
+        for octets in rows.split(|octet| *octet == b'|') {
+            let holds = is_data(rt.alloc(), rtype, octets, wanted);
+            assert!(rt; holds, "of {rtype:?} at {octets:?}");
+        }
     }
+    let cut = &SOA[..SOA.len() - 1];
+    assert!(rt; is_data(rt.alloc(), RType::SOA, cut, None));
 }
 
 // `octets`, followed by a name of 127 labels.
@@ -105,18 +95,11 @@ fn joined(alloc: Global, rtype: RType, octets: &[u8]) -> Result<Vec<u8>, AllocEr
     let mut joined = Vec::new(alloc);
     'parts: for part in Rdata::parts(rtype, octets) {
         match part {
-            Part::Octets(run) => joined.extend_from_slice(run)?,
-            Part::Name(name) => joined.extend_from_slice(name)?,
+            Octets(run) => joined.extend_from_slice(run)?,
+            Name(name) => joined.extend_from_slice(name)?,
         }
     }
     Ok(joined)
-}
-
-fn part_count(rtype: RType, octets: &[u8]) -> usize
-    requires { Valid rtype.0 octets.now }
-    ensures { result ≡ length (parts rtype.0 octets.now) }
-{
-    Rdata::parts(rtype, octets).count()
 }
 
 fn are_parts(rtype: RType, octets: &[u8], wanted: &[Part<'_>]) -> bool
@@ -131,90 +114,63 @@ fn are_parts(rtype: RType, octets: &[u8], wanted: &[Part<'_>]) -> bool
     parts.next().is_none()
 }
 
-fn has_parts(
-    alloc: Global,
-    rtype: RType,
-    octets: &[u8],
-    wanted: &[Part<'_>],
-) -> Result<bool, AllocError> {
-    let Ok(_) = Rdata::from_wire(alloc, rtype, octets) else {
+// Whether the data that these parts make has these parts, and the first name of them as its target.
+fn has_parts(alloc: Global, rtype: RType, wanted: &[Part<'_>]) -> Result<bool, AllocError> {
+    let (mut octets, mut target) = (Vec::new(alloc), None);
+    for part in wanted {
+        match part {
+            Octets(run) => octets.extend_from_slice(run)?,
+            Name(name) => {
+                octets.extend_from_slice(name)?;
+                target = target.or(Some(*name));
+            }
+        }
+    }
+    if Rdata::from_wire(alloc, rtype, &octets).is_err() {
         return Ok(false);
-    };
-    let joined = joined(alloc, rtype, octets)?;
+    }
     Ok(
-        part_count(rtype, octets) == wanted.len()
-            && joined.as_slice() == octets
-            && are_parts(rtype, octets, wanted),
+        joined(alloc, rtype, &octets)? == octets
+            && are_parts(rtype, &octets, wanted)
+            && Rdata::target(rtype, &octets).map(|name| name.octets()) == target,
     )
 }
 
-const PARTS: &[(RType, &[u8], &[Part<'static>])] = &[
-    (
-        RType::MX,
-        b"\x00\x0a\x04Mail\x07example\x00",
-        &[
-            Part::Octets(b"\x00\x0a"),
-            Part::Name(b"\x04Mail\x07example\x00"),
-        ],
-    ),
-    (
-        RType::HINFO,
-        b"\x01A\x02BC",
-        &[Part::Octets(b"\x01A"), Part::Octets(b"\x02BC")],
-    ),
+const PARTS: &[(RType, &[Part<'static>])] = &[
+    (RType::MX, &[Octets(b"\0\x0a"), Name(b"\x04Mail\x01A\0")]),
+    (RType::HINFO, &[Octets(b"\x01A"), Octets(b"\x02BC")]),
     (
         RType::SOA,
-        SOA,
         &[
-            Part::Name(b"\x02ns\x00"),
-            Part::Name(b"\x04mAIL\x01x\x00"),
-            Part::Octets(b"\x00\x00\x00\x01"),
-            Part::Octets(b"\x00\x00\x1c\x20"),
-            Part::Octets(b"\x00\x00\x03\x84"),
-            Part::Octets(b"\x00\x12\x75\x00"),
-            Part::Octets(b"\x00\x00\x01\x2c"),
+            Name(b"\x02ns\0"),
+            Name(b"\x04mAIL\x01x\0"),
+            Octets(b"\0\0\0\x01"),
+            Octets(b"\0\0\x1c\x20"),
+            Octets(b"\0\0\x03\x84"),
+            Octets(b"\0\x12\x75\0"),
+            Octets(b"\0\0\x01\x2c"),
         ],
     ),
     (
-        RType::TXT,
-        b"\x01A\x00\x02BC",
-        &[Part::Octets(b"\x01A\x00\x02BC")],
+        RType::SRV,
+        &[
+            Octets(b"AA"),
+            Octets(b"BB"),
+            Octets(b"CC"),
+            Name(b"\x01A\0"),
+        ],
     ),
-    (RType(65), b"\x01A\x00", &[Part::Octets(b"\x01A\x00")]),
-    (RType(65), b"", &[Part::Octets(b"")]),
+    (RType::TXT, &[Octets(b"\x01A\0\x02BC")]),
+    (RType(65), &[Octets(b"\x01A\0")]),
+    (RType(65), &[Octets(b"")]),
 ];
 
 #[test]
 fn parts_in_order(rt: HostRuntime) -> Result<(), Fail> {
-    for &(rtype, octets, wanted) in PARTS {
-        let holds = has_parts(rt.alloc(), rtype, octets, wanted)?;
-        assert!(rt; holds, "at {octets:?}");
+    for &(rtype, wanted) in PARTS {
+        assert!(rt; has_parts(rt.alloc(), rtype, wanted)?, "of {rtype:?}");
     }
     Ok(())
-}
-
-const TARGETS: &[(RType, &[u8], Option<&[u8]>)] = &[
-    (RType::MX, b"\x00\x0a\x04Mail\x00", Some(b"\x04Mail\x00")),
-    (RType::SRV, b"AAAAAA\x01A\x00", Some(b"\x01A\x00")),
-    (RType::SOA, SOA, Some(b"\x02ns\x00")),
-    (RType::TXT, b"\x01A", None),
-];
-
-// Whether data is valid, and its target is `wanted`; `None` if it has no target.
-fn has_target(alloc: Global, rtype: RType, octets: &[u8], wanted: Option<&[u8]>) -> bool {
-    let Ok(_) = Rdata::from_wire(alloc, rtype, octets) else {
-        return false;
-    };
-    let target = Rdata::target(rtype, octets);
-    target.as_ref().map(|name| name.octets()) == wanted
-}
-
-#[test]
-fn targets(rt: HostRuntime) {
-    for &(rtype, octets, wanted) in TARGETS {
-        let holds = has_target(rt.alloc(), rtype, octets, wanted);
-        assert!(rt; holds, "at {octets:?}");
-    }
 }
 
 #[test]

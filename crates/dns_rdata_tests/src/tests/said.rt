@@ -5,6 +5,10 @@ use dns_rdata::{DataBuffers, RType, Rdata, RdataFault, Word};
 use std::alloc::Global;
 use std::io::Write;
 
+/// `ns.`, `mAIL.x.`, and SERIAL, REFRESH, RETRY, EXPIRE and MINIMUM (RFC 1035 3.3.13).
+pub(crate) const SOA: &[u8] =
+    b"\x02ns\0\x04mAIL\x01x\0\0\0\0\x01\0\0\x1c\x20\0\0\x03\x84\0\x12\x75\0\0\0\x01\x2c";
+
 /// The data that words spell, relative to `Example.` The words are read twice with the same
 /// buffers, so that anything left in the buffers by the first reading would show.
 pub(crate) fn read(alloc: Global, rtype: RType, words: &[Word<'_>]) -> Result<Rdata, RdataFault> {

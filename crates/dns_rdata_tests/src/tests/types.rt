@@ -3,31 +3,26 @@ use dns_rdata::{RType, RdataFault};
 use dns_samples_tests::Kept;
 use std::alloc::Global;
 
+// Words, separated by `|`, and the type that each says.
 const READ: &[(&[u8], Option<RType>)] = &[
-    (b"A", Some(RType::A)),
+    (b"A|TYPE1", Some(RType::A)),
     (b"ns", Some(RType::NS)),
     (b"CName", Some(RType::CNAME)),
     (b"SOA", Some(RType::SOA)),
     (b"aaaa", Some(RType::AAAA)),
-    (b"TYPE1", Some(RType::A)),
     (b"type15", Some(RType::MX)),
     (b"Type0", Some(RType(0))),
     (b"TYPE65535", Some(RType(65535))),
-    (b"TYPE65536", None),
-    (b"TYPE4294967297", None),
-    (b"TYPE065", None),
-    (b"TYPE00", None),
-    (b"TYPE+1", None),
-    (b"TYPE", None),
-    (b"TYP", None),
-    (b"ANY", None),
-    (b"", None),
+    (b"TYPE65536|TYPE4294967297|TYPE065|TYPE00", None),
+    (b"TYPE+1|TYPE|TYP|ANY|", None),
 ];
 
 #[test]
 fn types_read(rt: HostRuntime) {
-    for &(word, wanted) in READ {
-        assert!(rt; RType::read_text(word) == wanted, "at {word:?}");
+    for &(words, wanted) in READ {
+        for word in words.split(|octet| *octet == b'|') {
+            assert!(rt; RType::read_text(word) == wanted, "at {word:?}");
+        }
     }
 }
 
@@ -70,14 +65,8 @@ fn a_failure_after_the_first_octet_is_told(rt: HostRuntime) {
 
 #[test]
 fn compression(rt: HostRuntime) {
-    for (rtype, wanted) in [
-        (RType::A, false),
-        (RType::SOA, true),
-        (RType::MX, true),
-        (RType::SRV, false),
-        (RType(65), false),
-    ] {
-        assert!(rt; rtype.compresses() == wanted);
+    for (number, wanted) in [(1, false), (6, true), (15, true), (33, false), (65, false)] {
+        assert!(rt; RType(number).compresses() == wanted, "of {number}");
     }
 }
 

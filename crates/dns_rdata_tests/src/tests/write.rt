@@ -1,64 +1,39 @@
-use crate::tests::said::{write, written};
+use crate::tests::said::{SOA, write, written};
 use dns_name::Tally;
 use dns_rdata::RType;
 use dns_samples_tests::Kept;
 use std::alloc::{AllocError, Global};
 use std::test::Fail;
 
-// MNAME, RNAME, SERIAL, REFRESH, RETRY, EXPIRE and MINIMUM (RFC 1035 3.3.13).
-const SOA: &[u8] =
-    b"\x02Ns\x00\x04mail\x01x\x00\x00\x00\x00\x01\x00\x00\x1c\x20\x00\x00\x03\x84\x00\x12\x75\x00\x00\x00\x01\x2c";
-
+// Types, data, and its text.
 const ROWS: &[(RType, &[u8], &[u8])] = &[
-    (RType::A, b"\xc0\x00\x02\x01", b"192.0.2.1"),
+    (RType::A, b"\xc0\0\x02\x01", b"192.0.2.1"),
     (RType::A, b"\xff\xff\xff\xff", b"255.255.255.255"),
     (
         RType::AAAA,
-        b"\x20\x01\x0d\xb8\x00\x00\x00\x00\x00\x01\x00\x00\x00\x00\x00\x01",
+        b"\x20\x01\x0d\xb8\0\0\0\0\0\x01\0\0\0\0\0\x01",
         b"2001:db8::1:0:0:1",
     ),
-    (
-        RType::AAAA,
-        b"\x00\x01\x00\x00\x00\x02\x00\x03\x00\x04\x00\x05\x00\x06\x00\x07",
-        b"1:0:2:3:4:5:6:7",
-    ),
-    (
-        RType::AAAA,
-        b"\x00\x01\x00\x02\x00\x03\x00\x04\x00\x05\x00\x06\x00\x07\x00\x00",
-        b"1:2:3:4:5:6:7:0",
-    ),
-    (RType::SOA, SOA, b"Ns. mail.x. 1 7200 900 1209600 300"),
-    (RType::NS, b"\x00", b"."),
-    (RType::CNAME, b"\x03a.b\x01C\x00", b"a\\.b.C."),
-    (RType::PTR, b"\x02ns\x07example\x00", b"ns.example."),
-    (
-        RType::MX,
-        b"\x00\x0a\x04mail\x07example\x00",
-        b"10 mail.example.",
-    ),
-    (RType::MX, b"\xff\xff\x00", b"65535 ."),
-    (
-        RType::SRV,
-        b"\x00\x00\xff\xff\x00\x35\x02ns\x00",
-        b"0 65535 53 ns.",
-    ),
-    (RType::HINFO, b"\x00\x01b", b"\"\" \"b\""),
+    (RType::SOA, SOA, b"ns. mAIL.x. 1 7200 900 1209600 300"),
+    (RType::NS, b"\0", b"."),
+    (RType::CNAME, b"\x03a.b\x01C\0", b"a\\.b.C."),
+    (RType::PTR, b"\x02ns\x07example\0", b"ns.example."),
+    (RType::MX, b"\0\x0a\x04mail\x01x\0", b"10 mail.x."),
+    (RType::MX, b"\xff\xff\0", b"65535 ."),
+    (RType::SRV, b"\0\0\xff\xff\0\x35\x02ns\0", b"0 65535 53 ns."),
+    (RType::HINFO, b"\0\x01b", b"\"\" \"b\""),
     (RType::HINFO, b"\x03A B\x02\\;", b"\"A B\" \"\\\\;\""),
     (RType::TXT, b"\x04a\"b\x09", b"\"a\\\"b\\009\""),
-    (RType::TXT, b"\x00", b"\"\""),
+    (RType::TXT, b"\0", b"\"\""),
     (RType::TXT, b"\x05 ~\\.;", b"\" ~\\\\.;\""),
-    (RType::TXT, b"\x03\x7f\xff\x00", b"\"\\127\\255\\000\""),
-    (RType::TXT, b"\x02AB\x00\x01\xff", b"\"AB\" \"\" \"\\255\""),
+    (RType::TXT, b"\x03\x7f\xff\0", b"\"\\127\\255\\000\""),
+    (RType::TXT, b"\x02AB\0\x01\xff", b"\"AB\" \"\" \"\\255\""),
     (RType(65280), b"", b"\\# 0"),
     (RType(65280), b"\xab\xcd\xef", b"\\# 3 abcdef"),
-    (RType(65280), b"\x00", b"\\# 1 00"),
-    (RType(65280), b"\x00\x9a\xaf\xff", b"\\# 4 009aafff"),
+    (RType(65280), b"\0", b"\\# 1 00"),
+    (RType(65280), b"\0\x9a\xaf\xff", b"\\# 4 009aafff"),
     (RType(0), b"\xc0\x0c", b"\\# 2 c00c"),
-    (
-        RType(65),
-        b"\x00\x01\x02\x03\x04\x05\x06\x07\x08\x09\x0a",
-        b"\\# 11 000102030405060708090a",
-    ),
+    (RType(65), b"0123456789", b"\\# 10 30313233343536373839"),
 ];
 
 #[test]
@@ -123,5 +98,9 @@ fn longest_text_written(rt: HostRuntime) -> Result<(), Fail> {
     assert!(rt; text.len() == 2 * 255 * 255 + 3 * 510 - 1);
     let text = written(rt.alloc(), RType(65280), &data);
     assert!(rt; text.len() == 9 + 2 * 65535);
+    // A backslash and three digits for each octet, between two marks.
+    let mut string = [0; 256];
+    string[0] = 255;
+    assert!(rt; written(rt.alloc(), RType::TXT, &string).len() == 1022);
     Ok(())
 }

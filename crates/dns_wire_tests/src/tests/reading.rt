@@ -1,29 +1,23 @@
 use crate::tests::plain::plain_message;
+use dns_samples_tests::REPLIES;
 use dns_wire::{Message, Question, WireFault, WireRecord, read_message};
 use std::alloc::{AllocError, Global};
 use std::test::Fail;
 
-// `www.example` A, answered with 192.0.2.10; the owner is a pointer to the question.
-const ANSWER: &[u8] =
-    b"\x12\x34\x84\x00\x00\x01\x00\x01\x00\x00\x00\x00\x03\x77\x77\x77\x07\x65\x78\x61\
-    \x6d\x70\x6c\x65\x00\x00\x01\x00\x01\xc0\x0c\x00\x01\x00\x01\x00\x00\x0e\x10\x00\
-    \x04\xc0\x00\x02\x0a";
+/// The worked reply with this name.
+pub(crate) fn reply(alloc: Global, name: &str) -> Result<Vec<u8>, Fail> {
+    let reply = REPLIES.iter().find(|reply| reply.name == name);
+    Ok(reply.ok_or("a reply")?.octets(alloc)?)
+}
 
-// `nope.example` A, a name error: an SOA whose two names end with pointers, at places 45 and 58;
-// its owner is a pointer, at 30.
-const NAME_ERROR: &[u8] =
-    b"\x12\x34\x84\x03\x00\x01\x00\x00\x00\x01\x00\x00\x04\x6e\x6f\x70\x65\x07\x65\x78\
-    \x61\x6d\x70\x6c\x65\x00\x00\x01\x00\x01\xc0\x11\x00\x06\x00\x01\x00\x00\x01\x2c\
-    \x00\x26\x02\x6e\x73\xc0\x11\x0a\x68\x6f\x73\x74\x6d\x61\x73\x74\x65\x72\xc0\x11\
-    \x00\x00\x00\x01\x00\x00\x1c\x20\x00\x00\x03\x84\x00\x12\x75\x00\x00\x00\x01\x2c";
-
-// `NAME_ERROR` with names whole, and without the length of the SOA's data.
+// The reply "a name error" with names whole, and without the length of the SOA's data.
 const NAME_ERROR_READ: &[u8] =
-    b"\x12\x34\x84\x03\x00\x01\x00\x00\x00\x01\x00\x00\x04nope\x07example\x00\x00\x01\x00\x01\
-    \x07example\x00\x00\x06\x00\x01\x00\x00\x01\x2c\x02ns\x07example\x00\x0ahostmaster\x07example\x00\
-    \x00\x00\x00\x01\x00\x00\x1c\x20\x00\x00\x03\x84\x00\x12\x75\x00\x00\x00\x01\x2c";
+    b"\x12\x34\x84\x03\0\x01\0\0\0\x01\0\0\x04nope\x07example\0\0\x01\0\x01\
+    \x07example\0\0\x06\0\x01\0\0\x01\x2c\x02ns\x07example\0\x0ahostmaster\x07example\0\
+    \0\0\0\x01\0\0\x1c\x20\0\0\x03\x84\0\x12\x75\0\0\0\x01\x2c";
 
-// The place of each pointer in `NAME_ERROR`, and the place where its run of labels begins.
+// The place of each pointer in the reply "a name error", and the place where its run of labels
+// begins.
 const POINTERS: &[(usize, u16)] = &[(30, 30), (45, 42), (58, 47)];
 
 // What octets spell if they are a message, in the form of `plain_message`; or their fault's code.
@@ -102,10 +96,11 @@ fn data_type(alloc: Global, octets: &[u8]) -> Option<u16> {
 }
 
 #[test]
-fn a_message_is_read(rt: HostRuntime) {
-    let read = read(rt.alloc(), NAME_ERROR);
-    assert!(rt; read.map_or(false, |octets| octets.as_slice() == NAME_ERROR_READ));
-    assert!(rt; data_type(rt.alloc(), NAME_ERROR) == Some(6));
+fn a_message_is_read(rt: HostRuntime) -> Result<(), Fail> {
+    let octets = reply(rt.alloc(), "a name error")?;
+    assert!(rt; read(rt.alloc(), &octets)?.as_slice() == NAME_ERROR_READ);
+    assert!(rt; data_type(rt.alloc(), &octets) == Some(6));
+    Ok(())
 }
 
 const CHANGES: &[(&str, usize, &[u8], u8)] = &[
@@ -114,61 +109,55 @@ const CHANGES: &[(&str, usize, &[u8], u8)] = &[
     ("reserved bits", 12, b"\x43", 2),
     ("other reserved bits", 12, b"\x80", 2),
     ("a count of two answers", 7, b"\x02", 1),
-    ("no answer", 7, b"\x00", 6),
+    ("no answer", 7, b"\0", 6),
     ("a length of five", 40, b"\x05", 1),
     ("a length of three", 40, b"\x03", 5),
     ("another class, whose data is octets", 34, b"\x02", 0),
-    ("an octet after the record", 45, b"\x00", 6),
-    (
-        "an address of five octets",
-        40,
-        b"\x05\xc0\x00\x02\x0a\x00",
-        5,
-    ),
+    ("an octet after the record", 45, b"\0", 6),
+    ("five octets of an address", 40, b"\x05\xc0\0\x02\x0a\0", 5),
 ];
 
 #[test]
 fn faults_by_what_is_changed(rt: HostRuntime) -> Result<(), Fail> {
+    let answer = reply(rt.alloc(), "an address")?;
     for &(name, place, octets, wanted) in CHANGES {
-        let octets = changed(rt.alloc(), ANSWER, place, octets)?;
+        let octets = changed(rt.alloc(), &answer, place, octets)?;
         assert!(rt; fault(rt.alloc(), &octets) == wanted, "{name}");
     }
+    assert!(rt; WireFault::NoMemory.code() == 7);
     Ok(())
 }
 
-// A name; a record of the root, without its owner; and the fault of a response with it, or 0.
-const DATA: &[(&str, &[u8], u8)] = &[
-    (
-        "A in another class",
-        b"\0\x01\0\x03\0\0\0\x01\0\x03\x01\x02\x03",
-        0,
-    ),
-    (
-        "A of three octets",
-        b"\0\x01\0\x01\0\0\0\x01\0\x03\x01\x02\x03",
-        5,
-    ),
-    ("TXT without a string", b"\0\x10\0\x01\0\0\0\x01\0\0", 5),
-    ("MX of one octet", b"\0\x0f\0\x01\0\0\0\x01\0\x01\0", 5),
+// The type and class of a record of the root; its data; and the fault of a response with it, or 0.
+const DATA: &[(u8, u8, &[u8], u8)] = &[
+    (1, 3, b"\x01\x02\x03", 0),
+    (1, 1, b"\x01\x02\x03", 5),
+    (16, 1, b"", 5),
+    (15, 1, b"\0", 5),
 ];
 
 #[test]
 fn data_by_class_and_type(rt: HostRuntime) -> Result<(), Fail> {
-    let head = b"\x12\x34\x84\0\0\0\0\x01\0\0\0\0\0";
-    for &(name, record, wanted) in DATA {
-        let octets = changed(rt.alloc(), head, 13, record)?;
-        assert!(rt; fault(rt.alloc(), &octets) == wanted, "{name}");
+    for &(rtype, class, data, wanted) in DATA {
+        let length = u8::try_from(data.len()).unwrap_or(0);
+        let mut octets = b"\x12\x34\x84\0\0\0\0\x01\0\0\0\0\0".to_vec(rt.alloc())?;
+        octets.extend_from_slice(&[0, rtype, 0, class, 0, 0, 0, 1, 0, length])?;
+        octets.extend_from_slice(data)?;
+        let holds = fault(rt.alloc(), &octets) == wanted;
+        assert!(rt; holds, "type {rtype}, class {class}");
     }
     Ok(())
 }
 
 #[test]
-fn beginnings_are_short(rt: HostRuntime) {
-    for octets in [ANSWER, NAME_ERROR] {
+fn beginnings_are_short(rt: HostRuntime) -> Result<(), Fail> {
+    for name in ["an address", "a name error"] {
+        let octets = reply(rt.alloc(), name)?;
         for count in 0..octets.len() {
             assert!(rt; fault(rt.alloc(), &octets[..count]) == 1, "{count} octets");
         }
     }
+    Ok(())
 }
 
 // Whether the plain reader and `read_message` agree. The fault may have another code than 3 only if
@@ -183,10 +172,11 @@ fn is_plain(alloc: Global, octets: &[u8], is_before: bool) -> bool {
 
 #[test]
 fn pointers_to_each_place(rt: HostRuntime) -> Result<(), Fail> {
+    let name_error = reply(rt.alloc(), "a name error")?;
     for &(place, run) in POINTERS {
         for target in 0..0x4000_u16 {
             let pointer = (0xc000 + target).to_be_bytes();
-            let octets = changed(rt.alloc(), NAME_ERROR, place, &pointer)?;
+            let octets = changed(rt.alloc(), &name_error, place, &pointer)?;
             let is_before = target >= 12 && target < run;
             let holds = is_plain(rt.alloc(), &octets, is_before);
             assert!(rt; holds, "{place} to {target}");
@@ -198,7 +188,8 @@ fn pointers_to_each_place(rt: HostRuntime) -> Result<(), Fail> {
 // The pointer at place 30 leads to 29: a label of the octet c0, a label of 29 octets, and the root.
 #[test]
 fn a_label_of_pointer_octets(rt: HostRuntime) -> Result<(), Fail> {
-    let octets = changed(rt.alloc(), NAME_ERROR, 31, b"\x1d")?;
+    let name_error = reply(rt.alloc(), "a name error")?;
+    let octets = changed(rt.alloc(), &name_error, 31, b"\x1d")?;
     assert!(rt; octets.get(29..32) == Some(b"\x01\xc0\x1d".as_slice()));
     let read = read(rt.alloc(), &octets).ok().ok_or("a message")?;
     assert!(rt; read.get(30..63) == octets.get(29..62));
@@ -207,13 +198,9 @@ fn a_label_of_pointer_octets(rt: HostRuntime) -> Result<(), Fail> {
 
 // A message with one question, whose name has `count` labels of one octet.
 fn question_of_labels(alloc: Global, count: usize) -> Result<Vec<u8>, AllocError> {
-    let mut octets = Vec::new(alloc);
-    octets.extend_from_slice(b"\0\0\0\0\0\x01\0\0\0\0\0\0")?;
-    for _ in 0..count {
-        octets.extend_from_slice(b"\x01\0")?;
-    }
-    octets.extend_from_slice(b"\0\0\0\0\0")?;
-    Ok(octets)
+    let labels = b"\x01\0".repeat(alloc, count)?;
+    let head = b"\0\0\0\0\0\x01\0\0\0\0\0\0";
+    [head, labels.as_slice(), b"\0\0\0\0\0"].concat(alloc)
 }
 
 #[test]
@@ -223,9 +210,4 @@ fn long_names(rt: HostRuntime) -> Result<(), Fail> {
         assert!(rt; fault(rt.alloc(), &octets) == wanted, "{count} labels");
     }
     Ok(())
-}
-
-#[test]
-fn want_of_memory_has_the_last_number(rt: HostRuntime) {
-    assert!(rt; WireFault::NoMemory.code() == 7);
 }

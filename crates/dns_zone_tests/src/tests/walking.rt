@@ -1,12 +1,10 @@
 //! Walks down the names of zones.
 
-use crate::zone_of;
+use crate::{deep, wide, zone_of};
 use dns_name::Label;
 use dns_rdata::{RType, SetView};
 use dns_samples_tests::SMALL;
 use dns_zone::{Node, Steps, Zone};
-use itoa::Buffer;
-use std::alloc::{AllocError, Global};
 use std::process::Abort;
 use std::test::Fail;
 
@@ -49,8 +47,18 @@ fn is_walked(zone: &Zone, (labels, found, rtype): Walked<'_>) -> bool {
     }
 }
 
-// Whether the RRset of a type has this data; for empty data, whether there is no RRset.
-fn has_data(node: &Node<'_>, rtype: RType, wanted: &[&[u8]]) -> bool {
+// Whether the name with these labels has an RRset of a type with this data, each record with this
+// target, or, if `target` is `None`, without a target; for no data, whether there is no RRset.
+fn has_rrset(
+    zone: &Zone,
+    labels: Labels<'_>,
+    rtype: RType,
+    wanted: &[&[u8]],
+    target: Option<&[u8]>,
+) -> bool {
+    let Some((_, node)) = walked(zone, labels) else {
+        return false;
+    };
     let Some(set) = node.set(rtype) else {
         return wanted.is_empty();
     };
@@ -58,25 +66,11 @@ fn has_data(node: &Node<'_>, rtype: RType, wanted: &[&[u8]]) -> bool {
         return false;
     }
     for i in 0..set.len() {
-        if set.rdata(i) != wanted[i] {
+        if set.rdata(i) != wanted[i] || set.target(i).map(|name| name.octets()) != target {
             return false;
         }
     }
     true
-}
-
-// Whether the RRset of a type has `count` records, each with this target, or, if `target` is
-// `None`, without a target.
-fn has_targets(node: &Node<'_>, rtype: RType, count: usize, target: Option<&[u8]>) -> bool {
-    let Some(set) = node.set(rtype) else {
-        return false;
-    };
-    for i in 0..set.len() {
-        if set.target(i).map(|name| name.octets()) != target {
-            return false;
-        }
-    }
-    set.len() == count
 }
 
 const WALKS: &[Walked<'static>] = &[
@@ -103,35 +97,28 @@ m MX 20 www
 m TXT www
 ";
 
-fn has_sets(zone: &Zone) -> bool {
-    let Some((_, node)) = walked(zone, &[b"www"]) else {
-        return false;
-    };
-    has_data(&node, RType::A, &[&[192, 0, 2, 9], &[192, 0, 2, 10]])
-        & has_data(&node, RType::TXT, &[b"\x00", b"\x01b"])
-        & has_data(&node, RType::AAAA, &[])
-}
+const WWW: &[u8] = b"\x03www\x07example\0";
 
-fn lends_targets(zone: &Zone) -> bool {
-    let Some((_, node)) = walked(zone, &[b"m"]) else {
-        return false;
-    };
-    has_targets(&node, RType::MX, 2, Some(b"\x03www\x07example\x00"))
-        & has_targets(&node, RType::TXT, 1, None)
-}
+// A label, a type, and the data and the target of the records.
+type Found<'a> = (&'a [u8], RType, &'a [&'a [u8]], Option<&'a [u8]>);
 
-#[test]
-fn names_are_found_label_by_label(rt: HostRuntime) -> Result<(), Fail> {
-    let zone = zone_of(rt.alloc(), b"example.", SMALL, SETS)?;
-    check_names(&rt, &zone);
-    Ok(())
-}
-
-fn check_names(rt: &impl Abort, zone: &Zone) {
-    check_walks(rt, zone, WALKS);
-    assert!(rt; has_sets(zone));
-    assert!(rt; lends_targets(zone));
-}
+const RRSETS: &[Found<'static>] = &[
+    (
+        b"www",
+        RType::A,
+        &[b"\xc0\0\x02\x09", b"\xc0\0\x02\x0a"],
+        None,
+    ),
+    (b"www", RType::TXT, &[b"\0", b"\x01b"], None),
+    (b"www", RType::AAAA, &[], None),
+    (b"m", RType::TXT, &[b"\x03www"], None),
+    (
+        b"m",
+        RType::MX,
+        &[b"\0\x0a\x03www\x07example\0", b"\0\x14\x03www\x07example\0"],
+        Some(WWW),
+    ),
+];
 
 fn check_walks(rt: &impl Abort, zone: &Zone, rows: &[Walked<'_>]) {
     for &row in rows {
@@ -139,63 +126,38 @@ fn check_walks(rt: &impl Abort, zone: &Zone, rows: &[Walked<'_>]) {
     }
 }
 
-const A: &[u8] = b"a";
-
-const TOO_MANY: &[&[u8]] = &[A; 128];
-
-// A zone with an address at a name of 127 labels.
-fn of_longest(alloc: Global) -> Result<Zone, Fail> {
-    let mut end = "a.".repeat(alloc, 127)?;
-    end.push_str(" 60 A 192.0.2.2\n")?;
-    let begin = "@ 60 SOA a a 1 2 3 4 5\n@ 60 NS a\na 60 A 192.0.2.1\n";
-    zone_of(alloc, b".", begin, end.as_str())
-}
-
-// Whether the longest name is found, with its address.
-fn has_longest(zone: &Zone) -> bool {
-    match walked(zone, TOO_MANY) {
-        Some((steps, node)) => {
-            (steps.visits() == 128) & has_data(&node, RType::A, &[&[192, 0, 2, 2]])
-        }
-        None => false,
+#[test]
+fn names_are_found_label_by_label(rt: HostRuntime) -> Result<(), Fail> {
+    let zone = zone_of(rt.alloc(), b"example.", SMALL, SETS)?;
+    check_walks(&rt, &zone, WALKS);
+    for &(label, rtype, wanted, target) in RRSETS {
+        let holds = has_rrset(&zone, &[label], rtype, wanted, target);
+        assert!(rt; holds, "{rtype:?} of {label:?}");
     }
+    Ok(())
 }
 
 #[test]
 fn the_longest_name_has_127_labels(rt: HostRuntime) -> Result<(), Fail> {
-    let zone = of_longest(rt.alloc())?;
-    assert!(rt; has_longest(&zone));
+    let (zone, labels) = (deep(rt.alloc())?, &[b"a".as_slice(); 128]);
+    let visits = walked(&zone, labels).map(|(steps, _)| steps.visits());
+    assert!(rt; visits == Some(128));
+    assert!(rt; has_rrset(&zone, labels, RType::A, &[b"\xc0\0\x02\x02"], None));
     Ok(())
 }
 
 const CHILDREN: &[Walked<'static>] = &[
     (&[b"ns"], 1, 1),
-    (&[b"0"], 1, 1),
-    (&[b"99995"], 1, 1),
-    (&[b"99996"], 0, 2),
+    (&[b"n0"], 1, 1),
+    (&[b"n99996"], 1, 1),
+    (&[b"n99997"], 0, 2),
+    (&[b"0"], 0, 2),
     (&[b"zz"], 0, 2),
 ];
 
-// Addresses of 99,996 names.
-fn addresses(alloc: Global) -> Result<String, AllocError> {
-    let mut text = String::new(alloc);
-    for number in 0..99_996_u32 {
-        text.push_str(Buffer::new().format(number))?;
-        text.push_str(" A 192.0.2.1\n")?;
-    }
-    Ok(text)
-}
-
-// A zone of 100,000 records, with 99,997 names directly below the origin.
-fn of_children(alloc: Global) -> Result<Zone, Fail> {
-    let begin = "$TTL 60\n@ SOA ns h 1 2 3 4 5\n@ NS ns\n@ TXT \"\"\nns A 192.0.2.1\n";
-    let end = addresses(alloc)?;
-    zone_of(alloc, b"example.", begin, end.as_str())
-}
-
 #[test]
 fn a_name_has_at_most_100_000_children(rt: HostRuntime) -> Result<(), Fail> {
-    let zone = of_children(rt.alloc())?;
+    let zone = wide(rt.alloc())?;
     check_walks(&rt, &zone, CHILDREN);
     Ok(())
 }

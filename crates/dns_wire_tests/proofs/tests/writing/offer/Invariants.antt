@@ -1,5 +1,5 @@
 use Rattle.std.proofs.Common.{◌≡◌}
-use Rattle.dns_wire_tests.proofs.tests.written.offer_all.Given as goal
+use Rattle.dns_wire_tests.proofs.tests.writing.offer.Given as goal
 
 abbrev pub invariant-records : goal.invariant-records
 invariant-records g l = l.writer.builder.limit ≡ l.initial.writer.builder.limit
