@@ -1,5 +1,5 @@
 -- The sets of an answer are its aliases, and the sets that end it.
-use Rattle.dns_answer.proofs.Common.{◌≡◌, ℕ, ◌+◌, ◌*◌, length, length-append, Bool, true, false, cond, ◌||◌, ◌&&◌, ◌⊎◌, inl, inr, not, min, List, [], ◌∷◌, ◌++◌, map, Option, None, Some, refl, sym, ap, ap₂, ◌∙◌, append-nil, append_assoc, arith, not-true, flat_map-append, filter-append, list_any-append, DomainName, same, at_or_below, type_a, type_ns, type_cname, type_soa, type_aaaa, qtype_any, target, soa_minimum, ResourceRecord, ZoneContents, at, rrset, of_type, with_owner, rising_types, of_first_type, of_lowest_type, cut_of, found, no_error, name_error, Section, answer, authority, Item, records_of, most_aliases, item, follows_alias, alias_items, last_sought, has_any, asked_records, Outcome, referral_to, negative, negative_soa, positive, outcome_by, outcome_at, outcome, targets_of, targets_inside, targets, extra, main_items, items, required_items, chain, targets_in_zone, is_authoritative, nat_tests, any-filter_same, ◌==◌, is_some, list_any, filter, filter_map, AllByRecursion, each_weaker, filter_each, each_append, each_flat_map, IsAlias, target_of, each_of_type, each_alias_item, item_records, targets_last, same-under, addresses_of, side_items, all_names, inside, not_inside, glue_by, others_by, nodes_by, misses_by, ending_targets, ending_required, chain_rest}
+use Rattle.dns_answer.proofs.Common.{◌≡◌, ℕ, ◌+◌, ◌*◌, length, length-append, Bool, true, false, cond, ◌||◌, ◌&&◌, ◌⊎◌, inl, inr, not, min, List, [], ◌∷◌, ◌++◌, map, Option, None, Some, refl, sym, ap, ap₂, ◌∙◌, append-nil, append_assoc, arith, not-true, flat_map-append, filter-append, list_any-append, DomainName, same, at_or_below, type_a, type_ns, type_cname, type_soa, type_aaaa, qtype_any, target, soa_minimum, ResourceRecord, ZoneContents, at, rrset, of_type, with_owner, rising_types, of_first_type, of_lowest_type, cut_of, found, no_error, name_error, Section, answer, authority, Item, records_of, most_aliases, item, follows_alias, alias_items, last_sought, has_any, asked_records, Outcome, referral_to, negative, negative_soa, positive, outcome_by, outcome_at, outcome, targets_of, targets_inside, targets, extra, main_items, items, required_items, chain, targets_in_zone, is_authoritative, any-filter_same, ◌==◌, is_some, list_any, filter, filter_map, AllByRecursion, each_weaker, filter_each, each_append, each_flat_map, IsAlias, target_of, each_of_type, each_alias_item, item_records, targets_last, same-under, addresses_of, side_items, all_names, inside, not_inside, glue_by, others_by, nodes_by, misses_by, ending_targets, ending_required, chain_rest}
 use Rattle.dns_answer.proofs.EndingSets.{is_target_type}
 use Rattle.dns_answer.proofs.TargetLaws.{depths, depths-append, side_items-append, side_items-none}
 use Rattle.dns_answer.proofs.StandingAddresses.{NotAddress, NoAddresses, extra-side, extra-none}
@@ -94,10 +94,6 @@ no-addresses : (s : Section) (u : ℕ) (rs : List ResourceRecord) → AreOf u rs
     → is_address_type u ≡ false → NoAddresses (item s rs)
 no-addresses s u rs e f = grind (arith, item_records, each_weaker)
 
--- a type with targets is not an address type
-targets-apart : (u : ℕ) → is_target_type u ≡ true → is_address_type u ≡ false
-targets-apart u e = grind (arith, nat_tests)
-
 NoAddresses-append : (is js : List Item) → NoAddresses is → NoAddresses js → NoAddresses (is ++ js)
 NoAddresses-append is js e f = grind (arith, flat_map-append, each_append, records_of)
 
@@ -170,7 +166,7 @@ module _ (z : ZoneContents) (front : List Item) (clear : NoAddresses front) wher
       whole = append-nil is
 
       go : (b : Bool) → is_target_type u ≡ b → NoAddresses (is ++ []) ⊎ (targets_of (is ++ []) ≡ [])
-      go true f = grind (arith, NoAddresses, whole, no-addresses, answer, targets-apart)
+      go true f = grind (arith, NoAddresses, whole, no-addresses, answer)
       go false f = inr (ap targets_of whole ∙ no-targets answer u rs e f)
 
   adds-referral : (c : DomainName) → Adds z front (referral_to z c)

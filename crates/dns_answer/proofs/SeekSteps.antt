@@ -1,5 +1,5 @@
 -- What seeking a name has offered and what it cost, by what is found for it.
-use Rattle.dns_answer.proofs.Common.{◌≡◌, inl, inr, ℕ, ◌+◌, ◌*◌, ◌<◌, ◌≤◌, Bool, true, false, cond, ◌&&◌, ◌||◌, List, [], ◌∷◌, ◌++◌, map, length, Option, None, Some, refl, sym, ap, ap₂, ◌∙◌, arith, subst, list_any, DomainName, folded, names_equal, same, at_or_below, type_cname, ResourceRecord, ZoneContents, at, of_type, with_owner, RecordSet, records_at, no_error, answer, Item, most_aliases, item, follows_alias, alias_set, first_target, has_any, Outcome, outcome_by, positive, negative, and_from, and_right, list_any-append, Walk, ZoneNode, IsSetOf, State, Offers, Rest, ending, Says, TookRest, asked_item, AreRecords, Took, IsApex, IsBelow, labels_below, target_at, chain_rest, names_of, aliases_left, leads_on, unsought, AreTargets, MaySeek, Seeks, HasNoAlias, IsShown, NextIs, Sought, Verdict, All, drop, All-nil, All-cons, All-head, All-tail, All-append, or_comm, or-false, length-map, length-reverse, map-append, reverse-append}
+use Rattle.dns_answer.proofs.Common.{◌≡◌, inl, inr, ℕ, ◌+◌, ◌*◌, ◌<◌, ◌≤◌, true, false, ◌&&◌, ◌||◌, List, [], ◌∷◌, ◌++◌, map, length, None, Some, refl, sym, ap, ap₂, ◌∙◌, arith, subst, list_any, DomainName, folded, names_equal, same, type_cname, ResourceRecord, ZoneContents, at, of_type, with_owner, RecordSet, records_at, no_error, answer, Item, most_aliases, item, follows_alias, alias_set, first_target, has_any, Outcome, outcome_by, positive, negative, and_from, and_right, list_any-append, Walk, ZoneNode, IsSetOf, State, Offers, Rest, ending, Says, TookRest, asked_item, AreRecords, Took, IsApex, IsBelow, labels_below, target_at, chain_rest, names_of, aliases_left, leads_on, unsought, AreTargets, MaySeek, Seeks, HasNoAlias, IsShown, NextIs, Sought, Verdict, All, drop, All-nil, All-cons, All-head, All-tail, All-append, or_comm, or-false, length-map, length-reverse, map-append, reverse-append}
 use Rattle.dns_answer.proofs.TargetLaws.{same-lower}
 use Rattle.dns_answer.proofs.Taking.{Took-then, HasNodesLeft-after}
 use Rattle.dns_answer.proofs.Offered.{offered-append}
@@ -34,12 +34,6 @@ any-names n (s ∷ ss) =
     ap (λ b. p || b) (any-names n ss) ∙ or_comm p q ∙ ap (λ b. q || b) (sym (or-false p))
     ∙ sym (ap (list_any (same n)) (reverse-append (s.name ∷ []) (map (λ (s : Sought). s.name) ss))
     ∙ list_any-append (same n) (names_of ss) (s.name ∷ []))
-
--- the target of an alias leads on, unless it was sought already
-pub unsought-is : (origin m : DomainName) (sought : List DomainName) (o : Option DomainName)
-    (b : Bool) → o ≡ Some m → at_or_below m origin ≡ true → list_any (same m) sought ≡ b
-    → unsought origin sought o ≡ cond b None (Some m)
-unsought-is origin m sought o b leads inside among = grind arith
 
 -- names in lower case are the same if they are equal
 any-lower : (n : DomainName) (ss : List Sought)

@@ -91,28 +91,13 @@ module _ (z : ZoneContents) (p : DomainName → Bool) where
       → length (filter p (ms ++ ns)) ≡ length (filter p ms) + length (filter p ns)
   misses-append ms ns = grind (arith, filter-append, length-append)
 
-  nodes-one : (o : Option DomainName) → side_nodes z p (option_to_list o) ≡ target_nodes z p o
-  nodes-one o = grind (arith, sum_cons)
-
-  misses-one : (o : Option DomainName) → length (filter p (option_to_list o)) ≡ target_misses p o
-  misses-one o = grind arith
-
   pub Took-more : (set : RecordSet) (i : ℕ) {s s' s'' : Walk} → i < length set.rdata → Took s s'
       (side_nodes z p (targets_of_first i set)) (length (filter p (targets_of_first i set)))
       → Took s' s'' (target_nodes z p (target_at i set)) (target_misses p (target_at i set))
       → Took s s'' (side_nodes z p (targets_of_first (i + 1) set))
       (length (filter p (targets_of_first (i + 1) set)))
   Took-more set i {s} {s'} {s''} h a b =
-      grind (
-        arith,
-        first-more,
-        Took-within,
-        nodes-append,
-        nodes-one,
-        misses-append,
-        misses-one,
-        Took-then,
-      )
+      grind (arith, first-more, Took-within, nodes-append, misses-append, Took-then)
 
 -- the targets of the first i records of a set, and those of its other records, are all its targets
 first-rest : (set : RecordSet) (i : ℕ) → targets_of_first i set

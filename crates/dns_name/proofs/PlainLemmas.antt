@@ -1,7 +1,7 @@
 -- A text without escapes is read from its end: each label's length is put in the place of the dot
 -- before the label.
 use Rattle.dns_name.proofs.Common.{◌≡◌, ◌≢◌, ℕ, ◌+◌, ◌-◌, ◌<◌, ◌≤◌, ◌==◌, true, false, inl, inr, [], ◌∷◌, ◌++◌, length, take, drop, get_or, map, refl, sym, ◌∙◌, ap, subst, arith, and_from, eqb-false, or_parts, list_all, to_ascii_lowercase, Octets, DomainName, wire, is_label, is_name, folded, append_assoc, take_at, append-nil, length-append, length-wire-append, map-lowercase-wire, is_name-append, is_name-folded, IsName-is_name, and_parts, LabelThen, TextSpells, SpellsName, is_mark}
-use Rattle.std.proofs.lemmas.List.{drop_more, drop-set, take-set, drop_all, take-take, get_or-take, length-set, length-map, map-append}
+use Rattle.std.proofs.lemmas.List.{drop_more, drop-set, drop_all, length-set, length-map, map-append}
 use Rattle.std.proofs.Math.ListN.{set}
 use Rattle.dns_name.proofs.TextLemmas.{LabelThen-nil, no_empty_label}
 use Rattle.dns_name.proofs.WireLemmas.{wire-append}

@@ -44,11 +44,6 @@ OctetThen-octet_at (a ∷ rest) x others h e =
           (a ∷ [], ap (λ w. a ∷ w) parts.1, (parts.0, eqb-false a 46 h, eqb-false a 92 plain))
     ]
 
--- no spelling of an octet begins at a label's end
-pub OctetThen-goes_on : (text : Octets) (x : ℕ) (others : Octets)
-    → OctetThen text x others → is_label_end text ≡ false
-OctetThen-goes_on text x others (first, e, h) = grind (arith, ne_eqb)
-
 -- a spelling has at least one octet
 pub OctetThen-shorter : (text : Octets) (x : ℕ) (others : Octets)
     → OctetThen text x others → length others < length text
@@ -97,7 +92,7 @@ LabelThen-unique text l rest l' rest' h h' end end' =
 -- the empty text spells the empty label, followed by nothing
 pub LabelThen-nil : (l rest : Octets) → LabelThen [] l rest → (l ≡ []) × (rest ≡ [])
 LabelThen-nil [] rest h = (refl, sym h)
-LabelThen-nil (x ∷ l) rest (first, after, e, p, h) = grind (arith, true≢false, OctetThen-goes_on)
+LabelThen-nil (x ∷ l) rest (first, after, e, p, h) = grind (arith, true≢false)
 
 pub no_empty_label : is_label [] ≡ true → ⊥
 no_empty_label h = false≢true h

@@ -34,12 +34,6 @@ pub NameSoFar-next : (before : Octets) (n : DomainName)
 NameSoFar-next before n text new labels rest l so_far e f =
     grind (arith, append_assoc, length-append, length-label_text)
 
--- there is still room for the label and the dot
-pub NameSoFar-room : (before : Octets) (n : DomainName)
-    (text : Octets) (labels rest : DomainName) (l : Octets) → NameSoFar before n text labels
-    → labels ≡ l ∷ rest → length text + 4 * length l + 4 ≤ length before + 1020
-NameSoFar-room before n text labels rest l so_far e = grind (arith, length-append)
-
 -- the labels each with a dot are the labels joined by dots, and a final dot
 last_dot : (l : Octets) (n : DomainName)
     → labels_text (l ∷ n) ≡ join_with_byte 46 (map label_text (l ∷ n)) ++ 46 ∷ []

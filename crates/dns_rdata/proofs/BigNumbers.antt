@@ -1,9 +1,6 @@
 -- The number that octets encode, as `byteorder` reads it.
 use Rattle.dns_rdata.proofs.Common.{◌≡◌, ℕ, ◌-◌, ◌≤◌, length, take, drop, arith, length-drop, take_all, Octets, number_of, big_number}
 
-pub big_number-four : (xs : Octets) → 4 ≤ length xs → big_number 4 xs ≡ number_of (take 4 xs)
-big_number-four xs h = grind arith
-
 -- the last k octets are at least four, so a number may be read from them
 pub four_long : (xs : Octets) (k : ℕ) → 4 ≤ k
     → k ≤ length xs → 4 ≤ length (take (length xs - (length xs - k)) (drop (length xs - k) xs))
@@ -11,4 +8,4 @@ four_long xs k some long = grind (arith, take_all, length-drop)
 
 pub number_in_last : (xs : Octets) (k : ℕ) → 4 ≤ k → k ≤ length xs → big_number 4 (take (length
     xs - (length xs - k)) (drop (length xs - k) xs)) ≡ number_of (take 4 (drop (length xs - k) xs))
-number_in_last xs k some long = grind (arith, take_all, big_number-four, length-drop)
+number_in_last xs k some long = grind (arith, take_all, length-drop)

@@ -1,5 +1,5 @@
 -- A field of data is read after the fields before it.
-use Rattle.dns_spec.specs.MessageFaults.{FieldFault, FieldsFault}
+use Rattle.dns_spec.specs.MessageFaults.{FieldsFault}
 use Rattle.dns_wire.proofs.Common.{refl, ◌≡◌, ◌≢◌, ℕ, ◌-◌, ◌<◌, List, [], ◌∷◌, ◌++◌, length, take, drop, Some, None, arith, append_assoc, append-nil, lt-leb, eq-eqb, Octets, DomainName, Field, domain, Part, part_octets, field_front, name_at, field_at, fields_at, field_own, IsFieldRead}
 use Rattle.std.specs.Option.{option_map}
 use Rattle.std.specs.Prelude.{◌≤◌}
@@ -35,13 +35,6 @@ pub field_read : (b : Octets) (p : Field) (i e : ℕ) (part : Part) (rest borrow
     → part_octets part ≡ borrowed → now ≡ old ++ borrowed → IsFieldRead b p i e old now (e - length rest)
 field_read b p i e part rest borrowed old now other front lends appended =
     grind (arith, field_own)
-
--- the fault of the next field, or that no octet may follow the fields, is the fault of all
-pub field_fault_of_all : {b : Octets} {ps : List Field} {i e j : ℕ} {p : Field}
-    {left : List Field} {so_far : Octets} → AreFieldsRead b ps i e (p ∷ left) j so_far → (f : ℕ)
-    → field_at b p j e ≡ None → FieldFault b p j f → FieldsFault b ps i e f
-field_fault_of_all reading f none fault =
-    reading.faults f (rw none fault)
 
 pub end_fault_of_all : {b : Octets} {ps : List Field} {i e j : ℕ} {so_far : Octets}
     → AreFieldsRead b ps i e [] j so_far → FieldsFault b ps i e 5

@@ -1,6 +1,6 @@
 -- The parts of data whose names are compressed: one name, a number and a name, or two names and
 -- five numbers.
-use Rattle.dns_wire.proofs.Common.{◌≡◌, suc-mul, ◌*◌, ℕ, ◌-◌, ◌≤◌, true, List, [], ◌∷◌, ◌++◌, length, take, drop, Option, None, Some, refl, sym, ap, ap₂, ◌∙◌, subst, arith, append-nil, length-append, take_at, drop_at, false≢true, and_parts, none-some, same_Some, Bor, Octets, DomainName, wire, is_name, length-take, length-drop, Field, domain, type_mx, type_soa, Part, octets, name, field_front, cut, fields_of, parts, laid_parts, compresses, valid, cut_into, name_part, octets_part, front_taken, labels_of, IsWireForm, Cuts, IsWirePart, part_for, Name, number, zero, suc, replicate}
+use Rattle.dns_wire.proofs.Common.{◌≡◌, suc-mul, ◌*◌, ℕ, ◌-◌, ◌≤◌, true, List, [], ◌∷◌, ◌++◌, length, take, drop, Option, None, Some, refl, sym, ap, ap₂, ◌∙◌, subst, arith, append-nil, length-append, take_at, drop_at, false≢true, none-some, same_Some, Bor, Octets, DomainName, wire, is_name, length-take, length-drop, Field, domain, type_mx, type_soa, Part, octets, name, field_front, cut, fields_of, parts, laid_parts, compresses, valid, cut_into, name_part, octets_part, front_taken, labels_of, IsWireForm, Cuts, IsWirePart, part_for, Name, number, zero, suc, replicate}
 use Rattle.dns_rdata.specs.declared.parts.Part as Borrowed
 use Rattle.dns_wire.proofs.DataWritten.{runs}
 use Rattle.dns_wire.proofs.ValidData.{by_row}
@@ -43,11 +43,6 @@ numbers_cut k (suc m) d xs h =
       omega (arith, long, again.1, length-take k d, length-drop k d, suc-mul m k),
     )
 
--- the parts of valid data of a type whose names are compressed
-parts_cut : (t : ℕ) (d : Octets)
-    → compresses t ≡ true → valid t d ≡ true → cut (fields_of t) d ≡ Some (laid_parts t d)
-parts_cut t d shared ok = grind (arith, and_parts, false≢true)
-
 pub one_name_laid : (t : ℕ) (d : Octets) → fields_of t ≡ domain ∷ [] → compresses t ≡ true → valid t
     d ≡ true → (n : DomainName) × (is_name n ≡ true) × (d ≡ wire n) × (laid_parts t d ≡ name n ∷ [])
 one_name_laid t d fields shared ok = grind (arith, first_name, cut_end, append-nil)
@@ -60,7 +55,7 @@ exchange_laid t d mx ok = grind (arith, first_number, first_name, cut_end, appen
 
 authority_cut : (t : ℕ) (d : Octets) → t ≡ type_soa
     → valid t d ≡ true → cut (domain ∷ domain ∷ replicate 5 (number 4)) d ≡ Some (laid_parts t d)
-authority_cut t d soa ok = grind (arith, parts_cut)
+authority_cut t d soa ok = grind arith
 
 -- data of an SOA begins with a name
 pub server_some : (t : ℕ) (d : Octets)

@@ -111,15 +111,3 @@ named_after {o} l after some is n e ok =
       cut = sym (drop_at l after (length l) refl);
     }) in
     (f.labels, f.spelled, f.is_name)
-
--- what is spelled from a label on begins with the label
-pub spelled_front : {b : Octets} {s i : ℕ} {o : Octets} (l : Octets)
-    → LabelAt b i l → SpelledFrom b s i o → (more : Octets) × (o ≡ length l ∷ (l ++ more))
-spelled_front {b} {s} {i} {o} l there h = go h.0 h.1 h.3 (goes_on_at h.2)
-  where
-    go : (n : DomainName) (e : ℕ)
-        → wire n ≡ o → GoesOn b s i n e → (more : Octets) × (o ≡ length l ∷ (l ++ more))
-    go n e w (at_end root none end) =
-        absurd (omega (arith, same_Some (length l) 0 (sym there.length_there ∙ root), there.some))
-    go n e w (at_label k m label shape run) = grind arith
-    go n e w (at_pointer p d pointer end run) = absurd (grind (arith, same_Some))

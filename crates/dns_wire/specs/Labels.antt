@@ -1,9 +1,7 @@
 -- What one step of reading a name finds at an offset of a message.
-use Rattle.std.specs.Prelude.{◌≡◌, ℕ, ◌+◌, ◌<◌, ◌≤◌, ◌++◌, length, take, drop, slice_get, Option, Some, IfSome, IsTrue}
-use Rattle.std.specs.Option.{unwrap_or}
-use Rattle.dns_spec.specs.Names.{Octets, DomainName, is_name}
+use Rattle.std.specs.Prelude.{◌≡◌, ℕ, ◌+◌, ◌<◌, ◌≤◌, length, take, drop, slice_get, Some}
+use Rattle.dns_spec.specs.Names.{Octets, DomainName}
 use Rattle.dns_spec.specs.NamesInMessages.{pointer_place, RunAt}
-use Rattle.dns_spec.specs.MessageFaults.{RunFault, NameFault}
 use Rattle.dns_wire.specs.declared.name.NameStep.{NameStep}
 use Rattle.dns_wire.specs.declared.name.NameStep.TheVariants.{End, Label, Jump}
 

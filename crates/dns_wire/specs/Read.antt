@@ -1,11 +1,8 @@
 -- Which header is read, and the invariant of reading questions or records.
-use Rattle.std.specs.Prelude.{◌≡◌, ℕ, ◌≤◌, List, ◌++◌, length, ◌==◌, if◌then◌else◌}
-use Rattle.std.specs.Prelude.{Option}
-use Rattle.std.specs.Option.{option_map}
+use Rattle.std.specs.Prelude.{◌≡◌, ℕ, ◌≤◌, length, ◌==◌, if◌then◌else◌}
 use Rattle.dns_spec.specs.Data.{class_in, Valid}
 use Rattle.dns_spec.specs.Names.{Octets}
-use Rattle.dns_spec.specs.Reading.{Header, head_of, field16, several}
-use Rattle.dns_spec.specs.MessageFaults.{SeveralFault}
+use Rattle.dns_spec.specs.Reading.{Header, head_of, field16}
 use Rattle.dns_wire.specs.declared.message.Counts.{Counts}
 
 -- The type that determines the form of a record's data. In a class other than IN it is 0, a type

@@ -1,7 +1,7 @@
 use Rattle.dns_wire.proofs.Common.{ℕ, List, arith, ◌≡◌, nil_from_length, Octets, fields_in, data_read}
 use Rattle.dns_spec.specs.Data as Data
 use Rattle.dns_rdata.specs.declared.table.Field.{Field}
-use Rattle.dns_wire.proofs.FieldLemmas.{field_more, fields_end, field_fault_of_all, end_fault_of_all, AreFieldsRead}
+use Rattle.dns_wire.proofs.FieldLemmas.{field_more, fields_end, end_fault_of_all, AreFieldsRead}
 use Rattle.dns_wire.proofs.ValidData.{data_valid}
 use Rattle.dns_wire.proofs.data.read_data.Goals as goal
 
@@ -28,7 +28,7 @@ returns-clause-valid c =
 pub returns-in_err-offset-clause-fault : goal.returns-in_err-offset-clause-fault
 returns-in_err-offset-clause-fault c =
     let reading = left c.in-Some.ensures.cases.0 c.fields.invariant in
-    grind (arith, field_fault_of_all reading)
+    grind arith
 
 pub returns-then-offset-end-clause-fault : goal.returns-then-offset-end-clause-fault
 returns-then-offset-end-clause-fault c _ =

@@ -1,5 +1,5 @@
 use Rattle.dns_wire.proofs.Common.{rules, arith, ap, sym, ◌∙◌, length}
-use Rattle.dns_wire.proofs.SpelledLemmas.{spelled_end, root_alone, spelled_label, spelled_jump, spelled_whole, named_after, spelled_front}
+use Rattle.dns_wire.proofs.SpelledLemmas.{spelled_end, root_alone, spelled_label, spelled_jump, spelled_whole, named_after}
 use Rattle.dns_wire.proofs.spelled.is_spelled.Goals as goal
 
 pub returns-in-End-clause-yes : goal.returns-in-End-clause-yes
@@ -27,7 +27,7 @@ steps-preserved-in-Label c =
     })
 
 pub returns-in_default-after_label-clause-no : goal.returns-in_default-after_label-clause-no
-returns-in_default-after_label-clause-no c = grind (arith, spelled_front)
+returns-in_default-after_label-clause-no c = grind arith
 
 pub returns-then-has_at-clause-yes : goal.returns-then-has_at-clause-yes
 returns-then-has_at-clause-yes c = λ yes n e ok.

@@ -1,6 +1,5 @@
-use Rattle.dns_name.proofs.Common.{refl, ◌≡◌, ◌+◌, ◌++◌, ◌∷◌, ◌∙◌, [], length, take, drop, map, ap, subst, sym, arith, take_at, append_assoc, length-append, folded, to_ascii_lowercase, Octets}
+use Rattle.dns_name.proofs.Common.{refl, ◌≡◌, ◌+◌, ◌++◌, ◌∙◌, [], length, take, drop, map, ap, sym, arith, take_at, append_assoc, length-append, folded, to_ascii_lowercase, Octets}
 use Rattle.std.proofs.lemmas.List.{length-map}
-use Rattle.dns_name.specs.TextForm.{HasLengths}
 use Rattle.dns_name.proofs.PlainLemmas.{SpelledPlain, plain_spelled}
 use Rattle.dns_name.proofs.WireLemmas.{IsWireForm-wire, labels_of_spelled}
 use Rattle.dns_name.proofs.name.Name.spell_plain.Goals as goal

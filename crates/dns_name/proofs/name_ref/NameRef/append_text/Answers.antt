@@ -1,5 +1,5 @@
 use Rattle.dns_name.proofs.Common.{◌≡◌, [], ◌∷◌, ◌++◌, ap, ◌∙◌, arith, length-append, Octets, label_text}
-use Rattle.dns_name.proofs.WrittenLemmas.{NameSoFar-next, NameSoFar-room, length-label_text}
+use Rattle.dns_name.proofs.WrittenLemmas.{NameSoFar-next, length-label_text}
 use Rattle.dns_name.proofs.name_ref.NameRef.append_text.Goals as goal
 
 appended : (text new octets l : Octets)
@@ -8,7 +8,7 @@ appended text new octets l e f = e ∙ ap (λ k. text ++ label_text k) f
 
 pub push-requires-in-labels : goal.push-requires-in-labels
 push-requires-in-labels c =
-    grind (arith, appended, NameSoFar-room, length-append, length-label_text)
+    grind (arith, appended, length-append, length-label_text)
 
 pub labels-preserved : goal.labels-preserved
 labels-preserved c =
