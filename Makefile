@@ -1,7 +1,8 @@
 .PHONY: run programs built docs install uninstall clean package test check check-all operate edits
 
 PREFIX ?= /usr/local
-NAMES = zonecheck zonefaults zoneserve dnsmsg zonesocket
+# The programs; first those that take longest to build.
+NAMES = zoneserve zonesocket zonecheck zonefaults dnsmsg
 PROGRAMS = $(foreach name,$(NAMES),crates/$(name)/out/$(name))
 # What the programs are made from.
 SOURCES = $(shell find crates \( -name out -o -name must-fail -o -name edits -o -name tests \) -prune -o \( -name '*.rt' -o -name '*.antt' \) -print)
