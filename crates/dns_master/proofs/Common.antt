@@ -10,8 +10,7 @@ pub use Rattle.dns_master.specs.PieceForm.{AllGive, FrontFaulty, FrontAdded, Fro
 pub use Rattle.dns_master.specs.RecordForm.{IsKept, LastOwner, SpelledName, SpelledOwner}
 pub use Rattle.dns_master.specs.SourceForm.{AppendsPiece, Decides, IsRead, ReadsFile}
 pub use Rattle.dns_master.specs.TokenForm.{by_itself, shown_token}
-pub use Rattle.dns_master.specs.WordsForm.{Found, KeptAndCounted, words_from, words_in, words_of_first}
-pub use Rattle.dns_master.specs.WordsLeft.{later_words, words_left}
+pub use Rattle.dns_master.specs.EntryFound.{EntryFound, most_words}
 pub use Rattle.dns_master.specs.declared.read_fault.ReadCode.{ReadCode}
 pub use Rattle.dns_master.specs.declared.read_fault.ReadCode.TheVariants.{BadData, BadType, DirectiveWords, NoMemory, NoTtl, OtherClass, Parenthesis, TooLong, TooManyRecords}
 pub use Rattle.dns_master.specs.declared.read_fault.ReadFault.{ReadFault}

@@ -2,6 +2,8 @@
 -- the entry.
 use Rattle.dns_master.proofs.Common.{◌≡◌, ℕ, ◌+◌, ◌≤◌, Bool, true, false, cond, List, [], ◌∷◌, ◌++◌, length, refl, sym, ap, ◌∙◌, subst, arith, append_assoc, append-nil, Some, None, Octets, Word, Token, token_front, is_line_end, word_of, filter, cons_option, front-shorter, misplaced, over, onward, step, Outcome, unended, wrong, Reads, token_words, line_ends, EntryRead, IsWrong, is_blank, drop, prefix_len}
 use Rattle.dns_master.proofs.RunLemmas.{blank-first}
+use Rattle.dns_master.proofs.Common.{◌<◌, length-append, take, take_all}
+use Rattle.std.proofs.lemmas.List.{length-take, take-append-le}
 use Rattle.dns_spec.specs.ZoneText.{blank}
 use Rattle.dns_master.specs.EntryForm.{ended}
 use Rattle.dns_spec.proofs.General.Options.{cons_option-append}
@@ -32,6 +34,28 @@ line_ends-one p = grind arith
 pub lines-shorter : (text others : Octets) (p : Token)
     → token_front text ≡ Some (p, others) → line_ends (p ∷ []) + length others ≤ length text
 lines-shorter text others p e = search (arith, front-shorter, line_ends-one)
+
+-- the first n words, after a token that is a word, which is stored if there are fewer than n; and
+-- after a token that is not a word
+module _ (n : ℕ) (stored all : List Word) (p : Token) (is : stored ≡ take n all) where
+  pub word-stored : (w : Word) → word_of p ≡ Some w → length stored < n
+      → stored ++ w ∷ [] ≡ take n (all ++ token_words (p ∷ []))
+  word-stored w word few =
+      let count = ap length is ∙ length-take n all in
+      let whole = length-append all (w ∷ []) in
+      ap (λ ws. ws ++ w ∷ []) (is ∙ take_all n all (omega (arith, few, count)))
+      ∙ sym (take_all n (all ++ w ∷ []) (omega (arith, few, count, whole)))
+      ∙ ap (λ o. take n (all ++ cons_option o [])) (sym word)
+
+  pub word-left_out : n ≤ length stored → stored ≡ take n (all ++ token_words (p ∷ []))
+  word-left_out full =
+      let count = ap length is ∙ length-take n all in
+      is ∙ sym (take-append-le n all (token_words (p ∷ [])) (omega (arith, full, count)))
+
+  pub other-passed : word_of p ≡ None → stored ≡ take n (all ++ token_words (p ∷ []))
+  other-passed none =
+      is ∙ ap (take n) (sym (append-nil all))
+      ∙ ap (λ o. take n (all ++ cons_option o [])) (sym none)
 
 module _ (text : Octets) where
   -- the tokens so far, with their words and line ends; any way to read the remaining tokens

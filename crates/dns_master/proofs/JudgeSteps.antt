@@ -68,9 +68,9 @@ fields-data_few t others o i h =
     let less = length-drop 1 others in omega (arith, few, less)
 
 -- the fields leave at most the words that there are
-pub fields-few : (ws : List Word) → length (fields ws).others ≤ length ws
-fields-few [] = omega arith
-fields-few (w ∷ []) = go (is_ttl_word w) (is_class_word w)
+pub fields_few : (ws : List Word) → length (fields ws).others ≤ length ws
+fields_few [] = omega arith
+fields_few (w ∷ []) = go (is_ttl_word w) (is_class_word w)
   where
     go : (a b : Bool) → length (Fields.others (cond a
         (record { ttl = Some w; class = None; others = [] }) (cond b
@@ -79,7 +79,7 @@ fields-few (w ∷ []) = go (is_ttl_word w) (is_class_word w)
     go true b = omega arith
     go false true = omega arith
     go false false = omega arith
-fields-few (w ∷ v ∷ ws) =
+fields_few (w ∷ v ∷ ws) =
     go (is_ttl_word w) (is_class_word w) (is_class_word v) (is_ttl_word v)
   where
     go : (a b c t : Bool) → length (Fields.others (cond a

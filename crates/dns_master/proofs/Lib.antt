@@ -2,10 +2,10 @@ pub mod Common
 pub mod RunLemmas
 pub mod RunTable
 pub mod EntryLoop
-pub mod WordSteps
 pub mod Refusals
 pub mod EntryCuts
 pub mod TextSteps
+pub mod CappedWords
 pub mod PieceSteps
 pub mod SourceSteps
 pub mod EntriesLoop

@@ -1,7 +1,7 @@
 -- What a prefix of a text decides holds however the text goes on.
-use Rattle.dns_master.proofs.Common.{◌≡◌, ℕ, ◌-◌, ◌≤◌, ◌⊎◌, inl, inr, Option, None, Some, Bool, true, false, AllGive, Knows, KindGives, kind_of, ended, gives, take_turns, parentheses, List, [], ◌∷◌, ◌++◌, length, length-append, append-nil, append_assoc, refl, sym, ap, ◌∙◌, subst, arith, Octets, DomainName, FileFault, too_long, unwrap_or, false≢true, ResourceRecord, Meaning, records, fault_at, after, EntriesMean, Word, Token, Entry, extent_by, with_end, cut_entries, beginning, stop_at, stop_fault, beginning_decides, tokens_cut, TextMeans, EntryRead, IsWhole, Reads, outcome_of, unended, ReaderMeans, MayFollow, FrontTaken, FrontFaulty, FrontAdded, TextAdded, PieceTaken, AppendsPiece, Reader}
+use Rattle.dns_master.proofs.Common.{◌≡◌, ℕ, ◌-◌, ◌≤◌, ◌⊎◌, inl, inr, Option, None, Some, Bool, true, false, AllGive, Knows, KindGives, EntryKind, kind_of, gives, List, [], ◌∷◌, ◌++◌, length, length-append, append-nil, append_assoc, refl, sym, ap, ◌∙◌, subst, arith, Octets, DomainName, FileFault, too_long, unwrap_or, false≢true, ResourceRecord, Meaning, records, fault_at, after, EntriesMean, Word, Token, Entry, extent_by, with_end, cut_entries, beginning, stop_at, stop_fault, beginning_decides, tokens_cut, TextMeans, EntryRead, IsWhole, Reads, outcome_of, unended, ReaderMeans, MayFollow, FrontTaken, FrontFaulty, FrontAdded, TextAdded, PieceTaken, AppendsPiece, Reader}
 use Rattle.dns_spec.specs.AllFaults.{LookBack}
-use Rattle.dns_spec.proofs.ZoneTexts.SomeMeaning.{Known, known_more, nothing_known, entry_sure}
+use Rattle.dns_spec.proofs.ZoneTexts.SomeMeaning.{Known, known_more, nothing_known, sort_sure}
 use Rattle.dns_master.specs.EarlierForm.{LooksBack, Passed}
 use Rattle.dns_master.specs.JudgeForm.{KindOwn}
 use Rattle.dns_master.proofs.EntryCuts.{reads-more}
@@ -30,25 +30,29 @@ sound-known : (o : DomainName) (earlier : List Entry) → AllGive o earlier → 
 sound-known o [] h = nothing_known
 sound-known o (e ∷ earlier) h = known_more o earlier h.0.0 e (sound-known o earlier h.1) h.0.1
 
--- an entry without a lexical fault or another one is taken
-module _ (o : DomainName) (earlier : List Entry) (ps : List Token) (rs : List ResourceRecord)
-    (turns : take_turns false (parentheses ps) ≡ true) (old : Reader)
-    (known : Knows o earlier old) (own : KindOwn o earlier (kind_of (ended ps)) rs) where
-  pub sure-given : KindGives o earlier (kind_of (ended ps)) (gives rs)
+-- after entries without a fault, an entry has a meaning
+module _ (o : DomainName) (earlier : List Entry) (s : EntryKind) (rs : List ResourceRecord)
+    (sound : AllGive o earlier) (own : KindOwn o earlier s rs) where
+  pub sure-given : KindGives o earlier s (gives rs)
   sure-given = elim own.given [
     | inl given ↦ given
-    | inr none ↦
-        absurd (entry_sure o earlier (ended ps) (sound-known o earlier known.sound)
-        (λ found. none.0 found.0 (rw turns at found.1)))
+    | inr none ↦ absurd (sort_sure o earlier s (sound-known o earlier sound)
+        (λ found. none.0 found.0 found.1))
   ]
 
-  pub taken-known : (new : Reader) → Passed o earlier (ended ps) new.earlier
-      → Knows o (ended ps ∷ earlier) new
-  taken-known new p = record { sound = ((rs, sure-given), known.sound); back = by_back p.back }
-    where
-      by_back : LookBack o (ended ps) earlier p.later → LooksBack o (ended ps ∷ earlier) new.earlier
-      by_back (inl (some, is)) = subst (λ es. LooksBack o es new.earlier) is p.known
-      by_back (inr (none, is)) = absurd (own.origin none)
+-- an entry without a fault is taken
+pub taken-known : (o : DomainName) (earlier : List Entry) (e : Entry) (rs : List ResourceRecord)
+    (new : Reader) → AllGive o earlier → KindOwn o earlier (kind_of e) rs
+    → Passed o earlier e new.earlier → Knows o (e ∷ earlier) new
+taken-known o earlier e rs new sound own p =
+    record {
+      sound = ((rs, sure-given o earlier (kind_of e) rs sound own), sound);
+      back = by_back p.back;
+    }
+  where
+    by_back : LookBack o e earlier p.later → LooksBack o (e ∷ earlier) new.earlier
+    by_back (inl (some, is)) = subst (λ es. LooksBack o es new.earlier) is p.known
+    by_back (inr (none, is)) = absurd (own.origin none)
 
 -- a complete entry remains the same however the text goes on
 module _ (goes_on : Option Bool)

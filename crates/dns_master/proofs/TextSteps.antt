@@ -253,19 +253,11 @@ over-at_end goes_on is_open (o ∷ rest) e =
 over-at_end true is_open [] e = absurd (none-some too_long (sym e))
 over-at_end false is_open [] e = (refl, refl)
 
--- the kind of an entry, by its first octet, its stored words and its later words
-pub same_sort : (text : Octets) (kept kept' later : List Word) (lines : ℕ) (outcome : form.Outcome)
-    (b : Bool) (read : EntryRead text (kept ++ later) lines outcome) → b ≡ list_any is_blank
-    (take 1 text) → kept' ≡ kept → kind_of (ended read.tokens) ≡ kind_by_words b (kept' ++ later)
-same_sort text kept kept' later lines outcome b read is same = grind (arith, begins-blank)
-
--- parentheses take turns in an entry that was read
-pub entry-turns : (text rest : Octets) (ps : List Token) (is_ended is_open : Bool)
-    → Reads false text ps (outcome_of is_ended is_open rest)
-    → take_turns false (parentheses ps) ≡ true
-entry-turns text rest ps true is_open reads = (reads-ended false text ps rest reads).turns
-entry-turns text rest ps false is_open reads =
-    (reads-unended false text ps is_open rest reads).turns
+-- the kind of an entry, by its first octet and its words
+pub same_sort : (text : Octets) (words : List Word) (lines : ℕ) (outcome : form.Outcome)
+    (b : Bool) (read : EntryRead text words lines outcome) → b ≡ list_any is_blank (take 1 text)
+    → kind_of (ended read.tokens) ≡ kind_by_words b words
+same_sort text words lines outcome b read is = grind (arith, begins-blank)
 
 module _ (o : DomainName) (earlier : List Entry)
     (goes_on : Bool) (text rest : Octets) (words : List Word) (lines : ℕ) (is_ended is_open : Bool)

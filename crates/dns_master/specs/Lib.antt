@@ -1,8 +1,7 @@
 pub mod Codes
 pub mod TokenForm
 pub mod EntryForm
-pub mod WordsForm
-pub mod WordsLeft
+pub mod EntryFound
 pub mod Steps
 pub mod RecordForm
 pub mod SourceForm

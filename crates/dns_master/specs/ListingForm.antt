@@ -1,5 +1,5 @@
 -- The faults of a text as the code lists them, and the reading of one entry.
-use Rattle.std.specs.Prelude.{ℕ, ◌-◌, ◌^◌, ◌<◌, ◌≤◌, List, ◌∷◌, length, map, drop, false}
+use Rattle.std.specs.Prelude.{ℕ, ◌-◌, ◌≤◌, List, ◌∷◌, length, map, drop, false}
 use Rattle.dns_spec.specs.Names.{Octets, DomainName}
 use Rattle.dns_spec.specs.ZoneText.{Entry}
 use Rattle.dns_spec.specs.Records.{ResourceRecord}
@@ -30,7 +30,6 @@ pub record EntryScanned (s : ScannedEntry) : Type 0 where
       s.words.now s.places.now s.read
   pub short : length s.rest.now ≤ length s.octets.now
   pub few : length s.octets.now ≤ 16777216
-  pub words_few : length s.words.now < 2 ^ 60
 
 abbrev pub placed : ScannedEntry → PlacedEntry
 placed s = entry_at (length s.octets.now) s.past.now s.rest.now

@@ -1,18 +1,16 @@
 //! Why an entry is faulty, and which of its words.
-ghost use Rattle.std.specs.Prelude.{◌≡◌, ◌≢◌, ◌+◌, ◌^◌, ◌<◌, ◌≤◌, length, Some, None, if◌then◌else◌};
+ghost use Rattle.std.specs.Prelude.{◌≡◌, ◌≢◌, ◌+◌, ◌≤◌, length, Some, None, if◌then◌else◌};
 ghost use Rattle.dns_spec.specs.NameText.{name_fault};
 ghost use Rattle.dns_spec.specs.Meaning.{Nothing, fields};
 ghost use Rattle.dns_master.specs.Codes.{fault_of};
 ghost use Rattle.dns_master.specs.RecordForm.{SpelledName};
 ghost use Rattle.dns_master.specs.JudgeForm.{ForDataFault, words_to};
-ghost use Rattle.dns_master.specs.WordsLeft.{words_left};
 
 use crate::earlier::{Blame, RecordFault};
-use crate::entry_words::EntryWords;
 use crate::fields::{Fields, is_class_word, is_ttl_word};
 use crate::read_fault::ReadCode;
 use dns_name::Name;
-use dns_rdata::{RdataFault, Word, Words};
+use dns_rdata::{RdataFault, Word};
 
 impl Blame {
     pub(crate) fn after(words: usize, code: ReadCode) -> Blame
@@ -78,17 +76,16 @@ pub(crate) fn data_fault(fault: RdataFault) -> RecordFault
 pub(crate) fn record_blame(
     fault: RecordFault,
     before: usize,
-    words: EntryWords<'_, '_>,
+    words: &[Word<'_>],
     in_data: usize,
 ) -> Blame
-    requires few { length (words_left words) < 2 ^ 60 }
     requires before { before ≤ 1 }
     requires blamed { fault.code ≡ ReadCode.BadData
-        → in_data ≤ 1 + length (fields (words_left words)).others }
+        → in_data ≤ 1 + length (fields words.now).others }
     ensures code { result.code ≡ fault.code }
     ensures number { result.number ≡ fault.number }
     ensures words { result.words
-        ≡ before + words_to (fault_of fault.code) (words_left words.entry) in_data }
+        ≡ before + words_to (fault_of fault.code) words.now in_data }
 {
     Blame {
         code: fault.code,
@@ -99,19 +96,17 @@ pub(crate) fn record_blame(
 
 // The number of words before the one at fault, from the words after the owner. A TTL or a class at
 // fault is the first of these words, or the second after the other of the two.
-fn words_before(code: ReadCode, words: EntryWords<'_, '_>, in_data: usize) -> usize
-    requires few { length (words_left words) < 2 ^ 60 }
+#[tactic(auto, using(crate::proofs::JudgeSteps::fields_few))]
+fn words_before(code: ReadCode, words: &[Word<'_>], in_data: usize) -> usize
     requires blamed { code ≡ ReadCode.BadData
-        → in_data ≤ 1 + length (fields (words_left words)).others }
-    ensures value { result ≡ words_to (fault_of code) (words_left words.entry) in_data }
-    ensures bound { result < 2 ^ 62 }
+        → in_data ≤ 1 + length (fields words.now).others }
+    ensures value { result ≡ words_to (fault_of code) words.now in_data }
+    ensures bound { result ≤ 1 + length words.now }
 {
-    let before_type = words
-        .count()
-        .saturating_sub(Fields::of(words).others.count());
+    let before_type = words.len().saturating_sub(Fields::of(words).others.len());
     match (code, words.split_first()) {
-        (ReadCode::BadTtl, Some((first, _))) => usize::from(!is_ttl_word(&first)),
-        (ReadCode::OtherClass, Some((first, _))) => usize::from(!is_class_word(&first)),
+        (ReadCode::BadTtl, Some((first, _))) => usize::from(!is_ttl_word(first)),
+        (ReadCode::OtherClass, Some((first, _))) => usize::from(!is_class_word(first)),
         (ReadCode::BadTtl | ReadCode::OtherClass, None) => 0,
         (ReadCode::BadData, _) => before_type + in_data,
         _ => before_type,

@@ -4,28 +4,26 @@ ghost use Rattle.std.specs.Prelude.{◌≡◌, ◌==◌, ◌≢◌, ◌+◌, ◌
 ghost use Rattle.std.specs.Option.{option_map, unwrap_or};
 ghost use Rattle.std.specs.Bool.{MatchBool};
 ghost use Rattle.dns_spec.specs.FileFaults.{bad_parenthesis, too_long};
-ghost use Rattle.dns_spec.specs.ZoneText.{is_cut_short, extent_by, stop_at, stop_fault, string_fault, token_fault, unless_cut_short};
+ghost use Rattle.dns_spec.specs.ZoneText.{is_cut_short, extent_by, stop_at, stop_fault, string_fault, token_fault, unless_cut_short, word_of};
 ghost use Rattle.dns_master.specs.TokenForm.{shown_token};
 ghost use Rattle.dns_master.specs.EntryForm.{IsWhole, IsWrong, step};
-ghost use Rattle.dns_master.specs.WordsLeft.{EntryFound};
+ghost use Rattle.dns_master.specs.EntryFound.{EntryFound};
 ghost use Rattle.dns_master.specs.Steps.{shown_step};
 ghost use Rattle.dns_master.specs.Codes.{ForFault, fault_of};
 
-use crate::entry_words::{LaterWords, word_of};
 use crate::read_fault::ReadCode;
 use crate::run::{RunKind, after_blanks};
 use crate::token::{Token, first_token};
 use dns_rdata::Word;
 
-// The number of words of an entry that are stored while its end is sought. Later words are only
-// counted.
-const MOST_KEPT: usize = 16;
+// The most words of an entry that are stored: one more than a valid entry may have. Before the data
+// of a record come at most its owner, TTL, class and type. Data has at most 65,535 octets, each
+// spelled by a word at most, and the generic form has two more words, `\#` and the length.
+const MOST_WORDS: usize = 65_542;
 
 /// How the first entry of a text ends.
 #[derive(Debug, Drop)]
 pub(crate) struct EntryEnd<'a> {
-    /// The words of the entry after those that are stored.
-    pub(crate) later: LaterWords<'a>,
     /// The number of line ends in the entry.
     pub(crate) lines: u32,
     /// Whether the entry ends with a line end.
@@ -37,22 +35,20 @@ pub(crate) struct EntryEnd<'a> {
 }
 
 /// Reads the first entry of a text, up to its end or to the first octet at which no token begins.
-/// Stores the first words of the entry in `kept`, and counts the later ones.
+/// Stores its words in `words`, but no more than the first 65,542: an entry of so many is invalid.
 ///
 /// Fails with `Parenthesis` if a parenthesis is misplaced, and with `NoMemory` if allocation fails.
 pub(crate) fn read_entry<'a>(
     text: &'a [u8],
-    kept: &mut Vec<Word<'a>>,
+    words: &mut Vec<Word<'a>>,
 ) -> Result<EntryEnd<'a>, ReadCode>
     requires { length text.now ≤ 16777217 }
-    ensures ok { IfOk result (λ end. EntryFound text.now kept.new.items end) }
+    ensures ok { IfOk result (λ end. EntryFound text.now words.new.items end) }
     ensures err { IfErr result (λ code. ForFault code
         (λ fault. (fault ≡ bad_parenthesis) × IsWrong text.now)) }
 {
-    kept.clear();
-    let mut later = LaterWords { text, count: 0 };
+    words.clear();
     let mut end = EntryEnd {
-        later,
         lines: 0,
         is_ended: false,
         is_open: false,
@@ -60,12 +56,11 @@ pub(crate) fn read_entry<'a>(
     };
     'tokens: while let Some((token, others)) = first_token(end.rest) {
         if let Some(word) = word_of(token) {
-            if kept.len() < MOST_KEPT {
-                kept.push(word)?;
-                end.rest = after_blanks(others);
-                continue;
+            if words.len() < MOST_WORDS {
+                words.push(word)?;
             }
-            later = one_later(later, end.rest);
+            end.rest = after_blanks(others);
+            continue;
         }
         end.lines += u32::from(matches!(token, Token::LineEnd));
         end.rest = others;
@@ -73,26 +68,22 @@ pub(crate) fn read_entry<'a>(
             Progress::Misplaced => return Err(ReadCode::Parenthesis),
             Progress::Over => {
                 end.is_ended = true;
-                return Ok(EntryEnd { later, ..end });
+                return Ok(end);
             }
             Progress::Onward(now_open) => end.is_open = now_open,
         }
     }
-    Ok(EntryEnd { later, ..end })
+    Ok(end)
 }
 
-// `later` with one more word, the first word of `rest`.
-#[cold]
-#[inline(never)]
-fn one_later<'a>(later: LaterWords<'a>, rest: &'a [u8]) -> LaterWords<'a>
-    requires { later.count ≤ 16777217 }
-    ensures count { result.count ≡ later.entry.count + 1 }
-    ensures text { result.text.now ≡ (if later.entry.count == 0 then rest.now
-        else later.entry.text.now) }
+pub(crate) fn word_of(token: Token<'_>) -> Option<Word<'_>>
+    ensures { result ≡ word_of (shown_token token.entry) }
 {
-    let text = if later.count == 0 { rest } else { later.text };
-    let count = later.count + 1;
-    LaterWords { text, count }
+    match token {
+        Token::Word(raw) => Some(Word { raw, quoted: false }),
+        Token::Quoted(raw) => Some(Word { raw, quoted: true }),
+        _ => None,
+    }
 }
 
 // What follows a token: nothing, because the token is a misplaced parenthesis or ends the entry; or

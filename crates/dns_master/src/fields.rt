@@ -4,43 +4,41 @@ ghost use Rattle.std.specs.List.{list_any};
 ghost use Rattle.std.specs.Option.{option_copied};
 ghost use Rattle.dns_spec.specs.Meaning.{Nothing, TypeIs, fields, class_after, ttl_after, is_ttl_word, is_class_word, is_word, is_other_class};
 ghost use Rattle.dns_master.specs.RecordForm.{NamedType};
-ghost use Rattle.dns_master.specs.WordsLeft.{words_left};
 
-use crate::entry_words::EntryWords;
 use crate::words::is_word;
-use dns_rdata::{RType, Word, Words};
+use dns_rdata::{RType, Word};
 use std::marker::Model;
 
 /// The TTL and the class of a record, each optional and in either order; and the words after them:
 /// the type and the data.
 #[derive(Debug, Drop)]
 pub(crate) struct Fields<'a, 'w> {
-    pub(crate) ttl: Option<Word<'w>>,
-    pub(crate) class: Option<Word<'w>>,
-    pub(crate) others: EntryWords<'a, 'w>,
+    pub(crate) ttl: Option<&'a Word<'w>>,
+    pub(crate) class: Option<&'a Word<'w>>,
+    pub(crate) others: &'a [Word<'w>],
 }
 
 impl<'a, 'w> Model for Fields<'a, 'w> {
     ghost use Rattle.dns_spec.specs.Meaning as meaning;
-    ghost use Rattle.dns_master.specs.WordsLeft.{words_left};
+    ghost use Rattle.std.specs.Option.{option_copied};
 
     ghost Value = { meaning.Fields };
 
     ghost view = { λ f. record {
-      ttl = f.ttl;
-      class = f.class;
-      others = words_left f.others;
+      ttl = option_copied f.ttl;
+      class = option_copied f.class;
+      others = f.others.now;
     } };
 }
 
 impl<'a, 'w> Fields<'a, 'w> {
     #[inline(always)]
-    pub(crate) fn of(words: EntryWords<'a, 'w>) -> Fields<'a, 'w>
-        ensures { result ≡ fields (words_left words.entry) }
+    pub(crate) fn of(words: &'a [Word<'w>]) -> Fields<'a, 'w>
+        ensures { result ≡ fields words.now }
     {
         match words.split_first() {
-            Some((first, others)) if is_ttl_word(&first) => Fields::after_ttl(first, others),
-            Some((first, others)) if is_class_word(&first) => Fields::after_class(first, others),
+            Some((first, others)) if is_ttl_word(first) => Fields::after_ttl(first, others),
+            Some((first, others)) if is_class_word(first) => Fields::after_class(first, others),
             _ => Fields {
                 ttl: None,
                 class: None,
@@ -50,11 +48,11 @@ impl<'a, 'w> Fields<'a, 'w> {
     }
 
     #[inline(always)]
-    fn after_ttl(ttl: Word<'w>, words: EntryWords<'a, 'w>) -> Fields<'a, 'w>
-        ensures { result ≡ class_after ttl.entry (words_left words.entry) }
+    fn after_ttl(ttl: &'a Word<'w>, words: &'a [Word<'w>]) -> Fields<'a, 'w>
+        ensures { result ≡ class_after ttl.now words.now }
     {
         let (class, others) = match words.split_first() {
-            Some((first, others)) if is_class_word(&first) => (Some(first), others),
+            Some((first, others)) if is_class_word(first) => (Some(first), others),
             _ => (None, words),
         };
         let ttl = Some(ttl);
@@ -62,12 +60,12 @@ impl<'a, 'w> Fields<'a, 'w> {
     }
 
     #[inline(always)]
-    fn after_class(class: Word<'w>, words: EntryWords<'a, 'w>) -> Fields<'a, 'w>
-        ensures { result ≡ ttl_after class.entry (words_left words.entry) }
+    fn after_class(class: &'a Word<'w>, words: &'a [Word<'w>]) -> Fields<'a, 'w>
+        ensures { result ≡ ttl_after class.now words.now }
     {
         let class = Some(class);
         let (ttl, others) = match words.split_first() {
-            Some((first, others)) if is_ttl_word(&first) => (Some(first), others),
+            Some((first, others)) if is_ttl_word(first) => (Some(first), others),
             _ => (None, words),
         };
         Fields { ttl, class, others }
@@ -109,15 +107,12 @@ pub(crate) fn is_other_class(stated: Option<&Word<'_>>) -> bool
 }
 
 #[inline(always)]
-pub(crate) fn type_and_words<'a, 'w>(
-    words: EntryWords<'a, 'w>,
-) -> Option<(RType, EntryWords<'a, 'w>)>
-    ensures { MatchOption result (Nothing (TypeIs (words_left words.entry)))
-        (λ x. TypeIs (words_left words.entry) x.0.0
-        × (words_left x.1 ≡ drop 1 (words_left words.entry))) }
+pub(crate) fn type_and_words<'a, 'w>(words: &'a [Word<'w>]) -> Option<(RType, &'a [Word<'w>])>
+    ensures { MatchOption result (Nothing (TypeIs words.now))
+        (λ x. TypeIs words.now x.0.0 × (x.1.now ≡ drop 1 words.now)) }
 {
     let (first, others) = words.split_first()?;
-    Some((read_type(&first)?, others))
+    Some((read_type(first)?, others))
 }
 
 // The type that an unquoted word names, if zones may have that type. They may not have type 0, a

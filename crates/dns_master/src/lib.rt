@@ -4,7 +4,6 @@
 mod blame;
 mod earlier;
 mod entry;
-mod entry_words;
 mod fields;
 mod listing;
 mod pieces;

@@ -7,7 +7,6 @@ ghost use Rattle.dns_master.specs.PieceForm.{TakesFirst, FrontFaulty};
 
 use crate::earlier::Earlier;
 use crate::entry::{is_whole, read_entry};
-use crate::entry_words::EntryWords;
 use crate::pieces::PieceReader;
 use crate::read_fault::{ReadCode, ReadFault};
 use crate::record::Record;
@@ -112,12 +111,8 @@ impl Reader {
             return Ok(None);
         }
         let (lines, rest) = (end.lines, end.rest);
-        let words = EntryWords {
-            kept: words.as_slice(),
-            later: end.later,
-        };
         let is_blank_led = text.first().is_some_and(|first| is_blank(*first));
-        match self.earlier.take(is_blank_led, words, buffers) {
+        match self.earlier.take(is_blank_led, words.as_slice(), buffers) {
             Ok(taken) => {
                 self.line += lines;
                 Ok(Some((taken, rest)))

@@ -6,8 +6,7 @@ ghost use Rattle.dns_spec.specs.EntryPlaces.{empty_place, octet_place, stop_octe
 ghost use Rattle.dns_master.specs.Codes.{fault_of};
 ghost use Rattle.dns_master.specs.ScanForm.{ScansEntry, shown_ending, shown_place};
 
-use crate::entry::{Progress, step_after, stop_fault};
-use crate::entry_words::word_of;
+use crate::entry::{Progress, step_after, stop_fault, word_of};
 use crate::read_fault::ReadCode;
 use crate::run::{RunKind, after_comment};
 use crate::token::first_token;

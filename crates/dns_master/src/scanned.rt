@@ -8,10 +8,8 @@ ghost use Rattle.dns_spec.specs.AllFaults.{first_place};
 ghost use Rattle.dns_master.specs.Codes.{fault_of};
 ghost use Rattle.dns_master.specs.ScanForm.{shown_ending, shown_place};
 ghost use Rattle.dns_master.specs.ListingForm.{EntryScanned, Judges, PassesEntry, placed, spot_by};
-ghost use Rattle.dns_master.specs.WordsLeft.{words_left};
 
 use crate::earlier::{Blame, Earlier};
-use crate::entry_words::{EntryWords, LaterWords};
 use crate::read_fault::ReadCode;
 use crate::run::is_blank;
 use crate::scan::{EntryScan, Span, ending_fault, stop_place};
@@ -65,7 +63,7 @@ impl ScannedEntry<'_, '_> {
         ensures passed { PassesEntry earlier.old self.now earlier.new }
         ensures taken { IfOk result (Judges earlier.old (placed self.now) earlier.new.last) }
     {
-        let taken = earlier.take(self.is_blank_led(), all_kept(self.words), buffers);
+        let taken = earlier.take(self.is_blank_led(), self.words, buffers);
         if let Some(code) = self.lexical_code() {
             return Ok(Judged::Faulty(self.lexical_fault(code)));
         }
@@ -149,15 +147,4 @@ impl ScannedEntry<'_, '_> {
             None => Span::empty(self.read.ends),
         }
     }
-}
-
-// All words of an entry, as the reader takes them.
-fn all_kept<'k, 'w>(words: &'k [Word<'w>]) -> EntryWords<'k, 'w>
-    ensures { words_left result ≡ words.now }
-{
-    let later = LaterWords {
-        text: b"",
-        count: 0,
-    };
-    EntryWords { kept: words, later }
 }

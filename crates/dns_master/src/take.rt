@@ -1,15 +1,13 @@
 //! Takes entries, faulty or not, one after another (RFC 1035 5.1).
-ghost use Rattle.std.specs.Prelude.{◌≡◌, ◌≤◌, ◌<◌, ◌^◌, ◌++◌, ◌+◌, [], length, codes, IfOk, IfErr, OnOk, if◌then◌else◌};
+ghost use Rattle.std.specs.Prelude.{◌≡◌, ◌≤◌, ◌++◌, ◌+◌, [], length, codes, IfOk, IfErr, OnOk, if◌then◌else◌};
 ghost use Rattle.std.specs.Option.{option_copied, option_or};
 ghost use Rattle.dns_spec.specs.TypeText.{text_in_lower_case};
 ghost use Rattle.dns_spec.specs.Meaning.{directive, fields, is_directive, kind_by_words};
 ghost use Rattle.dns_master.specs.EarlierForm.{LooksBack, Passes, RecordPassed, handed};
 ghost use Rattle.dns_master.specs.JudgeForm.{Blames, GivesKind, FieldsOwn, FieldsBlames, RecordBlames};
-ghost use Rattle.dns_master.specs.WordsLeft.{words_left};
 
 use crate::blame::{data_fault, owner_blame, record_blame};
 use crate::earlier::{Blame, Earlier, RecordFault};
-use crate::entry_words::EntryWords;
 use crate::fields::{Fields, is_other_class, type_and_words};
 use crate::read_fault::ReadCode;
 use crate::reader::MOST_RECORDS;
@@ -17,7 +15,7 @@ use crate::record::Record;
 use crate::record_collection::RecordCollection;
 use crate::words::{is_word, read_ttl};
 use dns_name::Name;
-use dns_rdata::{DataBuffers, RType, Rdata, Word, Words};
+use dns_rdata::{DataBuffers, RType, Rdata, Word};
 use std::alloc::{AllocError, Global};
 use std::mem::replace;
 
@@ -63,46 +61,45 @@ impl Earlier {
     pub(crate) fn take(
         &mut self,
         is_blank_led: bool,
-        words: EntryWords<'_, '_>,
+        words: &[Word<'_>],
         buffers: &mut DataBuffers,
     ) -> Result<bool, Blame>
-        requires few { length (words_left words) < 2 ^ 60 }
         ensures passed { Passes self.old
-            (kind_by_words is_blank_led (words_left words.entry)) self.new }
+            (kind_by_words is_blank_led words.now) self.new }
         ensures ok { IfOk result (λ taken. GivesKind self.old
-            (kind_by_words is_blank_led (words_left words.entry)) (handed taken self.new.last)) }
+            (kind_by_words is_blank_led words.now) (handed taken self.new.last)) }
         ensures err { IfErr result (Blames self.old
-            (kind_by_words is_blank_led (words_left words.entry))) }
+            (kind_by_words is_blank_led words.now)) }
     {
         let Some((first, others)) = words.split_first() else {
             return Ok(false);
         };
         if is_blank_led {
             if !self.has_owner {
-                self.pass_record(Fields::of(words).ttl.as_ref());
+                self.pass_record(Fields::of(words).ttl);
                 return Err(Blame::after(0, ReadCode::NoOwner));
             }
             return self.take_record(0, words, buffers);
         }
-        if is_directive(&first) {
+        if is_directive(first) {
             self.take_directive(first.raw, others)?;
             return Ok(false);
         }
-        self.has_owner = self.last.spell_owner(&first, &self.origin);
+        self.has_owner = self.last.spell_owner(first, &self.origin);
         if !self.has_owner {
-            self.pass_record(Fields::of(others).ttl.as_ref());
-            return Err(owner_blame(&first, &self.origin));
+            self.pass_record(Fields::of(others).ttl);
+            return Err(owner_blame(first, &self.origin));
         }
         self.take_record(1, others, buffers)
     }
 
-    fn take_directive(&mut self, name: &[u8], words: EntryWords<'_, '_>) -> Result<(), Blame>
+    fn take_directive(&mut self, name: &[u8], words: &[Word<'_>]) -> Result<(), Blame>
         ensures passed { Passes self.old
-            (directive (text_in_lower_case name.now) (words_left words.entry)) self.new }
+            (directive (text_in_lower_case name.now) words.now) self.new }
         ensures ok { OnOk result (GivesKind self.old
-            (directive (text_in_lower_case name.now) (words_left words.entry)) []) }
+            (directive (text_in_lower_case name.now) words.now) []) }
         ensures err { IfErr result (Blames self.old
-            (directive (text_in_lower_case name.now) (words_left words.entry))) }
+            (directive (text_in_lower_case name.now) words.now)) }
     {
         if is_word(b"$origin", name) {
             return self.take_origin(words);
@@ -113,13 +110,13 @@ impl Earlier {
         Err(Blame::after(0, ReadCode::UnknownDirective))
     }
 
-    fn take_origin(&mut self, words: EntryWords<'_, '_>) -> Result<(), Blame>
-        ensures passed { Passes self.old (directive (codes "$origin") (words_left words.entry))
+    fn take_origin(&mut self, words: &[Word<'_>]) -> Result<(), Blame>
+        ensures passed { Passes self.old (directive (codes "$origin") words.now)
             self.new }
         ensures ok { OnOk result (GivesKind self.old
-            (directive (codes "$origin") (words_left words.entry)) []) }
+            (directive (codes "$origin") words.now) []) }
         ensures err { IfErr result (Blames self.old
-            (directive (codes "$origin") (words_left words.entry))) }
+            (directive (codes "$origin") words.now)) }
     {
         let Some((first, others)) = words.split_first() else {
             return Err(Blame::after(0, ReadCode::DirectiveWords));
@@ -131,29 +128,29 @@ impl Earlier {
         if first.quoted {
             return Err(Blame::after(1, ReadCode::DirectiveWords));
         }
-        if others.count() > 0 {
+        if !others.is_empty() {
             return Err(Blame::after(2, ReadCode::DirectiveWords));
         }
         Ok(())
     }
 
-    fn take_default(&mut self, words: EntryWords<'_, '_>) -> Result<(), Blame>
-        ensures passed { Passes self.old (directive (codes "$ttl") (words_left words.entry))
+    fn take_default(&mut self, words: &[Word<'_>]) -> Result<(), Blame>
+        ensures passed { Passes self.old (directive (codes "$ttl") words.now)
             self.new }
         ensures ok { OnOk result (GivesKind self.old
-            (directive (codes "$ttl") (words_left words.entry)) []) }
+            (directive (codes "$ttl") words.now) []) }
         ensures err { IfErr result (Blames self.old
-            (directive (codes "$ttl") (words_left words.entry))) }
+            (directive (codes "$ttl") words.now)) }
     {
         let Some((first, others)) = words.split_first() else {
             return Err(Blame::after(0, ReadCode::DirectiveWords));
         };
-        let ttl = read_ttl(&first);
+        let ttl = read_ttl(first);
         self.default_ttl = Some(ttl);
         if ttl.is_none() {
             return Err(Blame::after(1, ReadCode::DirectiveWords));
         }
-        if others.count() > 0 {
+        if !others.is_empty() {
             return Err(Blame::after(2, ReadCode::DirectiveWords));
         }
         Ok(())
@@ -165,16 +162,15 @@ impl Earlier {
     fn take_record(
         &mut self,
         before: usize,
-        words: EntryWords<'_, '_>,
+        words: &[Word<'_>],
         buffers: &mut DataBuffers,
     ) -> Result<bool, Blame>
-        requires few { length (words_left words) < 2 ^ 60 }
         requires before { before ≤ 1 }
-        ensures passed { RecordPassed self.old (fields (words_left words.entry)).ttl self.new }
+        ensures passed { RecordPassed self.old (fields words.now).ttl self.new }
         ensures ok { IfOk result (λ taken. FieldsOwn self.old self.old.last.owner
-            (fields (words_left words.entry)) (handed taken self.new.last)) }
+            (fields words.now) (handed taken self.new.last)) }
         ensures err { IfErr result (RecordBlames self.old self.old.last.owner before
-            (words_left words.entry)) }
+            words.now) }
     {
         match self.take_fields(words, buffers) {
             Ok(taken) => Ok(taken),
@@ -188,24 +184,24 @@ impl Earlier {
     #[inline(never)]
     fn take_fields(
         &mut self,
-        words: EntryWords<'_, '_>,
+        words: &[Word<'_>],
         buffers: &mut DataBuffers,
     ) -> Result<bool, RecordFault>
-        ensures passed { RecordPassed self.old (fields (words_left words.entry)).ttl self.new }
+        ensures passed { RecordPassed self.old (fields words.now).ttl self.new }
         ensures ok { IfOk result (λ taken. FieldsOwn self.old self.old.last.owner
-            (fields (words_left words.entry)) (handed taken self.new.last)) }
+            (fields words.now) (handed taken self.new.last)) }
         ensures err { IfErr result (FieldsBlames self.old self.old.last.owner
-            (fields (words_left words.entry)) buffers.new.words_before_fault) }
+            (fields words.now) buffers.new.words_before_fault) }
         ensures few { IfErr result (λ fault. fault.code ≡ ReadCode.BadData
-            → buffers.new.words_before_fault ≤ 1 + length (fields (words_left words.entry)).others) }
+            → buffers.new.words_before_fault ≤ 1 + length (fields words.now).others) }
     {
         let fields = Fields::of(words);
-        self.pass_record(fields.ttl.as_ref());
+        self.pass_record(fields.ttl);
         let is_stated = fields.ttl.is_some();
         if is_stated && matches!(self.stated_ttl, Some(None)) {
             return Err(RecordFault::of(ReadCode::BadTtl));
         }
-        if is_other_class(fields.class.as_ref()) {
+        if is_other_class(fields.class) {
             return Err(RecordFault::of(ReadCode::OtherClass));
         }
         let Some((rtype, words)) = type_and_words(fields.others) else {

@@ -1,7 +1,7 @@
 -- Words are taken from the left, each by its field: what the first words spell, followed by what
 -- the other words spell by the remaining fields, is what all words spell by all fields.
 use Rattle.dns_spec.specs.AllFaults.{FaultyField}
-use Rattle.dns_rdata.proofs.Common.{◌≡◌, ℕ, zero, suc, inl, inr, Bool, true, false, nat_le, MatchBool, le-leb, lt-leb, FieldsFaultIs, field_fault, subst, subst₂, ◌+◌, ◌<◌, ◌≤◌, List, [], ◌∷◌, ◌++◌, length, drop, slice_get, Some, refl, ap, ◌∙◌, arith, none-some, same_Some, Octets, DomainName, Field, Word, SaysWord, SaysFields, append_assoc, length-append, length-drop, length-map, suc-eq-add-one, canonical_octets, Appends}
+use Rattle.dns_rdata.proofs.Common.{◌≡◌, ℕ, zero, suc, inl, inr, Bool, true, false, nat_le, MatchBool, le-leb, lt-leb, FieldsFaultIs, field_fault, subst, subst₂, ◌+◌, ◌<◌, ◌≤◌, List, [], ◌∷◌, ◌++◌, length, drop, drop-cons, get_or, slice_get, Some, refl, sym, ap, ◌∙◌, arith, none-some, same_Some, Octets, DomainName, Field, Word, SaysWord, SaysFields, append_assoc, length-append, length-drop, length-map, suc-eq-add-one, canonical_octets, Appends}
 
 -- the words spell d in order, one word for each field, and e is d with its names in lower case
 abbrev pub SaysKept : List Field → DomainName → List Word → Octets → Octets → Type 0
@@ -47,6 +47,12 @@ pub record Taken (fs left : List Field) (origin : DomainName) (ws rest : List Wo
   pub passed : length ws ≡ taken + length rest
   pub at : (j : ℕ) → FaultyField left origin (length octets) rest j
       → FaultyField fs origin 0 ws (taken + j)
+
+-- the items from index i on are the one there and those after it
+pub item-front : {X : Type 0} (xs : List X) (i : ℕ) (x : X) → i < length xs
+    → x ≡ get_or xs i x → drop i xs ≡ x ∷ drop (i + 1) xs
+item-front xs i x inside is = drop-cons xs i x inside
+    ∙ ap (λ y. y ∷ drop (suc i) xs) (sym is) ∙ ap (λ k. x ∷ drop k xs) (suc-eq-add-one i)
 
 -- the fields from index i on are the field f and those after it
 next_field : (fs : List Field) (i : ℕ) (f : Field)

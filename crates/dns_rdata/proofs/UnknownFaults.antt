@@ -1,41 +1,46 @@
 -- Which of the words after `\\#` is at fault.
-use Rattle.std.specs.Prelude.{◌≡◌, ℕ, ◌+◌, ◌<◌, ◌≤◌, ◌%◌, Bool, true, false, not, ◌==◌, List, [], ◌∷◌, length, decimal, ◌↔◌, Result, IfErr}
+use Rattle.std.specs.Prelude.{◌≡◌, ℕ, ◌+◌, ◌≤◌, ◌%◌, Bool, true, false, not, ◌==◌, List, [], ◌∷◌, length, decimal, ◌↔◌, Result, IfErr}
 use Rattle.std.specs.Prelude.{Option, None, Some}
-use Rattle.std.specs.List.{list_all, prefix_len, flat_map}
+use Rattle.std.specs.List.{list_all, position, prefix_len, flat_map}
 use Rattle.std.specs.Option.{is_some, is_none}
 use Rattle.std.specs.Char.{is_ascii_hexdigit}
 use Rattle.dns_spec.specs.DataText.{Word, is_hex_word, SaysUnknown, hex_octets}
 use Rattle.dns_spec.specs.AllFaults.{FaultyUnknown, StatesLength, is_hex}
-use Rattle.dns_rdata.proofs.Common.{refl, sym, ap, ◌∙◌, arith, and_parts, and_from, eqb-true, flat_map-cons, inr, true≢false}
+use Rattle.dns_rdata.proofs.Common.{refl, sym, ap, ◌∙◌, arith, and_parts, and_from, eqb-true, flat_map-cons, inr, none-some, same_Some, true≢false}
 use Rattle.dns_spec.proofs.Common.{list_all-append}
 use Rattle.dns_rdata.proofs.HexLemmas.{even_digits, hex_tested}
 
-all_passed : {X : Type 0} (p : X → Bool) (xs : List X) → prefix_len p xs ≡ length xs
-    → list_all p xs ≡ true
-all_passed p [] e = refl
-all_passed p (x ∷ xs) e = grind (arith, (all_passed p xs))
+-- the first item that fails a test is found, or there is none
+first_failed : {X : Type 0} (p : X → Bool) (xs : List X) (i : ℕ)
+    → position (λ x. not (p x)) xs ≡ Some i → (list_all p xs ≡ false) × (prefix_len p xs ≡ i)
+first_failed p [] i e = absurd (none-some i e)
+first_failed p (x ∷ xs) i e =
+    next (p x) refl (position (λ y. not (p y)) xs) refl (first_failed p xs)
+  where
+    next : (b : Bool) → p x ≡ b → (r : Option ℕ) → position (λ y. not (p y)) xs ≡ r
+        → ((k : ℕ) → position (λ y. not (p y)) xs ≡ Some k
+        → (list_all p xs ≡ false) × (prefix_len p xs ≡ k))
+        → (list_all p (x ∷ xs) ≡ false) × (prefix_len p (x ∷ xs) ≡ i)
+    next false is r found later = grind (arith, same_Some)
+    next true is None found later = grind (arith, none-some)
+    next true is (Some k) found later = let rest = later k found in grind (arith, same_Some)
 
-not_all : {X : Type 0} (p : X → Bool) (xs : List X) → prefix_len p xs < length xs
-    → list_all p xs ≡ false
-not_all p [] e = absurd (omega (arith, e))
-not_all p (x ∷ xs) e = grind (arith, (not_all p xs))
+none_failed : {X : Type 0} (p : X → Bool) (xs : List X)
+    → position (λ x. not (p x)) xs ≡ None → list_all p xs ≡ true
+none_failed p [] e = refl
+none_failed p (x ∷ xs) e = grind (arith, none-some, (none_failed p xs))
 
 module _ (w : Word) (ws : List Word) (n : ℕ) (states : StatesLength w n) where
-  -- the word after the first `index` words from `\\#` on is not hex
-  pub word_not_hex : (index count : ℕ) (v : Word) (after : List Word) → is_hex v ≡ false
-      → 1 + prefix_len is_hex ws ≡ index + prefix_len is_hex (v ∷ after)
-      → count ≡ length (w ∷ ws) → count ≡ index + length (v ∷ after)
-      → FaultyUnknown (w ∷ ws) (index + 1)
-  word_not_hex index count v after bad passed all left =
-      let none : prefix_len is_hex (v ∷ after) ≡ 0 = rw bad refl in
-      let few : prefix_len is_hex ws < length ws = omega (arith, none, passed, all, left) in
-      inr (n, states, rw (not_all is_hex ws few) (omega (arith, none, passed)))
+  -- a word is not hex, the first such word after the length
+  pub word_not_hex : (i : ℕ) → position (λ v. not (is_hex v)) ws ≡ Some i
+      → FaultyUnknown (w ∷ ws) (i + 2)
+  word_not_hex i found =
+      let first = first_failed is_hex ws i found in
+      inr (n, states, rw first.0 (omega (arith, first.1)))
 
-  -- all words after the first are hex
-  pub all_hex : (index count : ℕ) → 1 + prefix_len is_hex ws ≡ index → count ≡ length (w ∷ ws)
-      → index ≡ count → FaultyUnknown (w ∷ ws) 0
-  all_hex index count passed all over =
-      inr (n, states, rw (all_passed is_hex ws (omega (arith, passed, all, over))) refl)
+  -- all words after the length are hex
+  pub all_hex : position (λ v. not (is_hex v)) ws ≡ None → FaultyUnknown (w ∷ ws) 0
+  all_hex found = inr (n, states, rw (none_failed is_hex ws found) refl)
 
 hexes : (ws : List Word) → list_all is_hex_word ws ≡ true
     → list_all is_ascii_hexdigit (flat_map (λ (v : Word). v.raw) ws) ≡ true
@@ -69,10 +74,6 @@ pub stated : (w : Word) (raw : List ℕ) (r : Option ℕ) → raw ≡ w.raw → 
 stated w raw None same bare some reads = absurd (true≢false some)
 stated w raw (Some n) same bare some reads =
     let said = (reads n).0 refl in (n, (bare, sym same ∙ said.0, said.1))
-
-pub passed_none : (k : ℕ) (ws : List Word) → length ws ≡ 0 → k + prefix_len is_hex ws ≡ k
-passed_none k [] e = omega arith
-passed_none k (w ∷ ws) e = absurd (omega (arith, e))
 
 pub each_fault : {A F : Type 0} (r : Result A F) (P : F → Type 0) → ((f : F) → P f) → IfErr r P
 each_fault r P h = grind arith

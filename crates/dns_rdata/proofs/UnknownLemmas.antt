@@ -1,5 +1,6 @@
 -- Words of hex digits, read from left to right, each of whole octets.
-use Rattle.dns_rdata.proofs.Common.{◌≡◌, ◌<◌, ◌≤◌, ℕ, true, false, List, [], ◌∷◌, ◌++◌, length, sym, ◌∙◌, ap, arith, decimal, IsTrue, length-append, list_all, flat_map, option_map, and_parts, eqb-true, decimal_injective, Octets, Some, not, Result, IfErr, IsErrAnd, append_assoc, append-nil, Word, is_hex_word, hex_octets, SaysHex, SaysUnknown, AppendsHex, SaysHexWord, AppendsWord}
+use Rattle.dns_rdata.proofs.Common.{◌≡◌, ◌<◌, ◌≤◌, ℕ, true, false, List, [], ◌∷◌, ◌++◌, length, sym, ◌∙◌, ap, arith, subst, ◌+◌, drop, get_or, decimal, IsTrue, length-append, list_all, flat_map, option_map, and_parts, eqb-true, decimal_injective, Octets, Some, not, Result, IfErr, IsErrAnd, append_assoc, append-nil, Word, is_hex_word, hex_octets, SaysHex, SaysUnknown, AppendsHex, SaysHexWord, AppendsWord}
+use Rattle.dns_rdata.proofs.FormFronts.{item-front}
 use Rattle.dns_rdata.proofs.HexLemmas.{joined_octets, hex_octets-append, even_digits}
 
 -- the digits of words, in order
@@ -21,6 +22,13 @@ pub WordsSoFar-more : (ws rest : List Word) (w : Word) (old new : Octets)
     → WordsSoFar ws (w ∷ rest) old → AppendsWord w old new → WordsSoFar ws rest new
 WordsSoFar-more ws rest w old new so_far (d, said, e) =
     grind (arith, joined, joined_octets, append_assoc)
+
+-- the words from the one at an index on
+pub WordsSoFar-at : (ws : List Word) (i : ℕ) (w : Word) (octets : Octets) → i < length ws
+    → w ≡ get_or ws i w → WordsSoFar ws (drop i ws) octets
+    → WordsSoFar ws (w ∷ drop (i + 1) ws) octets
+WordsSoFar-at ws i w octets inside is so_far =
+    subst (λ rest. WordsSoFar ws rest octets) (item-front ws i w inside is) so_far
 
 pub WordsSoFar-end : (ws : List Word) (octets : Octets)
     → WordsSoFar ws [] octets → SaysHex ws octets

@@ -28,4 +28,4 @@ pub use read::DataBuffers;
 pub use rtype::RType;
 pub use set::SetView;
 pub use table::{Field, fields_of_type};
-pub use word::{Word, Words};
+pub use word::Word;

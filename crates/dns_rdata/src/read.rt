@@ -12,7 +12,7 @@ use crate::rdata_fault::RdataFault;
 use crate::rtype::RType;
 use crate::typed::{USUAL_OCTETS, put_typed};
 use crate::unknown::{faulty_unknown, is_unknown_mark, put_unknown};
-use crate::word::{Word, Words};
+use crate::word::Word;
 use dns_name::Name;
 use std::alloc::Global;
 use std::mem::replace;
@@ -80,32 +80,32 @@ impl Rdata {
     /// The data that words spell, as `read_words` returns it. The data takes its memory from
     /// `buffers`; `DataBuffers::take_back` returns the memory.
     #[tactic(auto, using(crate::proofs::TypedData::said_valid))]
-    pub fn read_words_in<'w, W: Words<'w>>(
+    pub fn read_words_in(
         buffers: &mut DataBuffers,
         rtype: RType,
-        words: W,
+        words: &[Word<'_>],
         origin: &Name,
     ) -> Result<Rdata, RdataFault>
         ensures valid { IfOk result (λ d. Valid rtype.0 d) }
-        ensures ok { IfOk result (λ d. Says rtype.0 (W.to_come words) origin.now d) }
+        ensures ok { IfOk result (λ d. Says rtype.0 words.now origin.now d) }
         ensures only { IfOk result
-            (λ d. (e : Octets) → Says rtype.0 (W.to_come words) origin.now e → e ≡ d) }
+            (λ d. (e : Octets) → Says rtype.0 words.now origin.now e → e ≡ d) }
         ensures fault { IfErr result (λ fault. fault ≢ RdataFault.NoMemory → (d : Octets)
-            → Says rtype.0 (W.to_come words) origin.now d → ⊥) }
+            → Says rtype.0 words.now origin.now d → ⊥) }
         ensures which { IfErr result (λ fault. fault ≢ RdataFault.NoMemory
-            → DataFaultIs rtype.0 (W.to_come words) origin.now (fault_code fault)) }
+            → DataFaultIs rtype.0 words.now origin.now (fault_code fault)) }
         ensures faulty { IfErr result (λ fault. fault ≢ RdataFault.NoMemory
-            → FaultyData rtype.0 (W.to_come words) origin.now buffers.new.words_before_fault) }
+            → FaultyData rtype.0 words.now origin.now buffers.new.words_before_fault) }
     {
         let mut octets = replace(&mut buffers.octets, Vec::new(buffers.alloc));
         octets.clear();
         octets.reserve_exact(USUAL_OCTETS)?;
         if let Some((first, others)) = words.split_first() {
-            if is_unknown_mark(&first) {
+            if is_unknown_mark(first) {
                 buffers.spelled.clear();
                 buffers.words_before_fault = 1;
                 if let Err(fault) = put_unknown(others, &mut buffers.spelled) {
-                    buffers.words_before_fault = faulty_unknown(others).min(words.count() - 1) + 1;
+                    buffers.words_before_fault = faulty_unknown(others) + 1;
                     return Err(fault);
                 }
                 return Rdata::lowered(rtype, buffers.spelled.as_slice(), octets);

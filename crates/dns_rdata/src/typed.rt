@@ -17,7 +17,7 @@ use crate::rdata_fault::RdataFault;
 use crate::rtype::RType;
 use crate::string::{is_plain_string, read_string};
 use crate::table::{Field, is_strings, row_of_type};
-use crate::word::{Word, Words};
+use crate::word::Word;
 use dns_name::Name;
 
 /// The number of octets reserved for data before it is read. Most data fits into these, so that its
@@ -31,42 +31,36 @@ pub(crate) const USUAL_OCTETS: usize = 24;
 /// wrong, or else with the fault of the first invalid word from the left, or with `BadString` if
 /// the data exceeds 65,535 octets. `faulty` is then the number of words, from the type on, before
 /// the one at fault.
-pub(crate) fn put_typed<'w, W: Words<'w>>(
+pub(crate) fn put_typed(
     rtype: RType,
-    words: W,
+    words: &[Word<'_>],
     origin: &Name,
     name: &mut Name,
     faulty: &mut usize,
     octets: &mut Vec<u8>,
 ) -> Result<(), RdataFault>
     requires none { octets.old.items ≡ [] }
-    requires not_unknown { is_marked (W.to_come words) ≡ false }
-    ensures ok { OnOk result (Says rtype.0 (W.to_come words) origin.now octets.new.items) }
+    requires not_unknown { is_marked words.now ≡ false }
+    ensures ok { OnOk result (Says rtype.0 words.now origin.now octets.new.items) }
     ensures which { IfErr result (λ fault. fault ≢ RdataFault.NoMemory
-        → DataFaultIs rtype.0 (W.to_come words) origin.now (fault_code fault)) }
+        → DataFaultIs rtype.0 words.now origin.now (fault_code fault)) }
     ensures faulty { IfErr result (λ fault. fault ≢ RdataFault.NoMemory
-        → FaultyData rtype.0 (W.to_come words) origin.now faulty.new) }
+        → FaultyData rtype.0 words.now origin.now faulty.new) }
 {
-    let count = words.count();
     let Some(row) = row_of_type(rtype) else {
-        *faulty = count.min(1);
+        *faulty = words.len().min(1);
         return Err(RdataFault::BadHex);
     };
-    if !is_word_count(row.fields, count) {
+    if !is_word_count(row.fields, words.len()) {
         *faulty = 0;
         return Err(RdataFault::WordCount);
     }
-    let mut others = words;
-    'words: for index in 0..count {
-        let Some((word, after)) = others.split_first() else {
-            unreachable!();
-        };
+    'words: for (index, word) in words.iter().enumerate() {
         *faulty = index + 1;
-        append_word(field_at(row.fields, index), &word, origin, name, octets)?;
+        append_word(field_at(row.fields, index), word, origin, name, octets)?;
         if octets.len() > MAX_OCTETS {
             return Err(RdataFault::BadString);
         }
-        others = after;
     }
     Ok(())
 }

@@ -1,7 +1,7 @@
 //! Reads data in the generic form, its length and its octets as hex digits (RFC 3597 5).
-ghost use Rattle.std.specs.Prelude.{◌≡◌, ◌≢◌, ◌≤◌, [], length, OnOk, IfOk, IfErr};
+ghost use Rattle.std.specs.Prelude.{◌≡◌, ◌≢◌, ◌≤◌, ◌<◌, not, [], length, OnOk, IfOk, IfErr, IfSome};
 ghost use Rattle.dns_spec.specs.Names.{Octets};
-ghost use Rattle.std.specs.List.{list_all};
+ghost use Rattle.std.specs.List.{list_all, position};
 ghost use Rattle.std.specs.Char.{is_ascii_hexdigit};
 ghost use Rattle.dns_spec.specs.DataText.{SaysUnknown, is_unknown_mark};
 ghost use Rattle.dns_spec.specs.AllFaults.{FaultyUnknown, is_hex};
@@ -10,7 +10,7 @@ ghost use Rattle.dns_rdata.specs.UnknownForm.{AppendsWord, SaysHexWord};
 use crate::hex::append_hex;
 use crate::number::read_number;
 use crate::rdata_fault::RdataFault;
-use crate::word::{Word, Words};
+use crate::word::Word;
 
 // Data has at most 65,535 octets (RFC 1035 3.2.1).
 const MOST_DATA_OCTETS: u32 = 65_535;
@@ -26,15 +26,12 @@ pub(crate) fn is_unknown_mark(word: &Word<'_>) -> bool
 /// these words is the number of octets; the others are hex digits, an even number in each word.
 ///
 /// Fails with `NoMemory` only if allocation fails, and otherwise with `BadHex`.
-pub(crate) fn put_unknown<'w, W: Words<'w>>(
-    words: W,
-    octets: &mut Vec<u8>,
-) -> Result<(), RdataFault>
+pub(crate) fn put_unknown(words: &[Word<'_>], octets: &mut Vec<u8>) -> Result<(), RdataFault>
     requires { octets.old.items ≡ [] }
-    ensures ok { OnOk result (SaysUnknown (W.to_come words) octets.new.items) }
+    ensures ok { OnOk result (SaysUnknown words.now octets.new.items) }
     ensures short { OnOk result (length octets.new.items ≤ 65535) }
     ensures fault { IfErr result (λ fault. fault ≢ RdataFault.NoMemory → (d : Octets)
-        → SaysUnknown (W.to_come words) d → length d ≤ 65535 → ⊥) }
+        → SaysUnknown words.now d → length d ≤ 65535 → ⊥) }
     ensures kind { IfErr result (λ fault. fault ≢ RdataFault.NoMemory → fault ≡ RdataFault.BadHex) }
 {
     let Some((first, others)) = words.split_first() else {
@@ -44,13 +41,11 @@ pub(crate) fn put_unknown<'w, W: Words<'w>>(
         return Err(RdataFault::BadHex);
     }
     let count = read_number(first.raw, MOST_DATA_OCTETS).ok_or(RdataFault::BadHex)?;
-    let mut others = others;
-    'words: while let Some((word, after)) = others.split_first() {
-        append_word(&word, octets)?;
+    'words: for word in others {
+        append_word(word, octets)?;
         if octets.len() > count as usize {
             return Err(RdataFault::BadHex);
         }
-        others = after;
     }
     if octets.len() != count as usize {
         return Err(RdataFault::BadHex);
@@ -60,28 +55,28 @@ pub(crate) fn put_unknown<'w, W: Words<'w>>(
 
 /// For words after `\#`: the number of words, from `\#` on, before the one at fault. This is the
 /// first word that is no length of at most 65,535, or not hex digits; `\#` if there is no such word.
-pub(crate) fn faulty_unknown<'w, W: Words<'w>>(words: W) -> usize
-    ensures value { FaultyUnknown (W.to_come words) result }
-    ensures bound { result ≤ length (W.to_come words) }
+pub(crate) fn faulty_unknown(words: &[Word<'_>]) -> usize
+    ensures value { FaultyUnknown words.now result }
+    ensures bound { result ≤ length words.now }
 {
-    let count = words.count();
     let Some((first, others)) = words.split_first() else {
         return 0;
     };
     if first.quoted || read_number(first.raw, MOST_DATA_OCTETS).is_none() {
         return 1;
     }
-    let mut others = others;
-    'words: for index in 1..count {
-        let Some((word, after)) = others.split_first() else {
-            unreachable!();
-        };
-        if !is_hex(&word) {
-            return index + 1;
-        }
-        others = after;
+    match first_not_hex(others) {
+        Some(index) => index + 2,
+        None => 0,
     }
-    0
+}
+
+// The index of the first word that does not spell whole octets in hex digits, if there is one.
+fn first_not_hex(words: &[Word<'_>]) -> Option<usize>
+    ensures value { result ≡ position (λ w. not (is_hex w)) words.now }
+    ensures bound { IfSome result (λ index. index < length words.now) }
+{
+    words.iter().position(|word| !is_hex(word))
 }
 
 // Whether a word spells whole octets in hex digits.

@@ -17,3 +17,4 @@ pub mod FormsAgain
 pub mod SaidAgain
 pub mod OneData
 pub mod OneFault
+pub mod FewWords

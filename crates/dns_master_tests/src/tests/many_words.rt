@@ -1,6 +1,6 @@
-//! Entries of many words. The reader keeps only the first ones.
+//! Entries of many words. The reader keeps no more words than a valid entry may have.
 
-use super::reading::repeated;
+use super::reading::{fault, repeated};
 use super::records::means;
 use std::alloc::{AllocError, Global};
 use std::test::Fail;
@@ -68,6 +68,27 @@ fn a_record_of_300_strings_across_the_end_of_a_piece(rt: HostRuntime) -> Result<
     for within in [1, 9, 10, 150, 151, 152, 153, 1_000, 2_000] {
         let all = repeated(rt.alloc(), b"", (b"\n", PIECE - within), &text)?;
         assert!(rt; means(rt.alloc(), &all, &meant), "from {within}");
+    }
+    Ok(())
+}
+
+// The beginning of an entry, a word, how often the word follows, and the fault of the entry. The
+// first entry has as many words as a valid entry may have.
+const MOST: &[(&[u8], (&[u8], usize), (u8, u32))] = &[
+    (b"\na 1 IN TYPE1000 \\# 65535", (b" aa", 65_535), (0, 0)),
+    (b"\na 1 IN TYPE1000 \\# 65535", (b" aa", 65_536), (13, 2)),
+    (b"\na 1 IN TYPE1000 \\# 65535", (b" aa", 70_000), (13, 2)),
+    (b"\na 1 IN TXT", (b" a", 32_767), (0, 0)),
+    (b"\na 1 IN TXT", (b" a", 70_000), (13, 2)),
+    (b"\na..b 1 IN TXT", (b" a", 70_000), (7, 2)),
+    (b"\n$ORIGIN", (b" a", 70_000), (6, 2)),
+];
+
+#[test]
+fn entries_of_the_most_words(rt: HostRuntime) -> Result<(), Fail> {
+    for &(first, words, wanted) in MOST {
+        let text = repeated(rt.alloc(), first, words, b"")?;
+        assert!(rt; fault(rt.alloc(), &text) == wanted, "at {first:?}");
     }
     Ok(())
 }

@@ -1,10 +1,10 @@
 -- Words that have a fault spell no data, and have no other fault.
-use Rattle.dns_spec.proofs.Common.{◌≡◌, ℕ, suc, ◌+◌, ◌≤◌, inl, inr, Bool, true, false, ◌==◌, nat_le, List, [], ◌∷◌, length, Option, Some, None, refl, sym, ◌∙◌, ap, subst, arith, MatchBool, MatchOption, list_all, and_parts, leb-true, le-leb, eq-eqb, length-append, Octets, DomainName, Field, Word, SaysFields, word_fields_of, SaysTyped, SaysUnknown, is_unknown_mark, Says, Valid, DataFaultIs, FieldsFaultIs, TypedFaultIs, UnknownFaultIs}
+use Rattle.dns_spec.proofs.Common.{◌≡◌, ℕ, suc, ◌+◌, ◌≤◌, inl, inr, Bool, true, false, ◌==◌, nat_le, List, [], ◌∷◌, length, Option, Some, None, refl, sym, ◌∙◌, ap, subst, arith, MatchBool, MatchOption, list_all, and_parts, leb-true, le-leb, eq-eqb, length-append, Octets, DomainName, Field, Word, SaysFields, word_fields_of, SaysTyped, is_unknown_mark, Says, DataFaultIs, FieldsFaultIs, TypedFaultIs, UnknownFaultIs}
 use Rattle.std.proofs.lemmas.Bool.Decides.{when_true}
-use Rattle.dns_spec.proofs.DataWords.OneData.{is_narrow, form_once, narrow_fields, unknown_once}
+use Rattle.dns_spec.proofs.DataWords.OneData.{is_narrow, form_once, narrow_fields}
 
 -- if words spell fields, there are as many words as fields
-as_many_words : (fs : List Field) (origin : DomainName) (ws : List Word) (d : Octets)
+pub as_many_words : (fs : List Field) (origin : DomainName) (ws : List Word) (d : Octets)
     → SaysFields fs origin ws d → length fs ≡ length ws
 as_many_words [] origin [] d h = refl
 as_many_words [] origin (w ∷ ws) d h = absurd h

@@ -118,7 +118,7 @@ module _ (o : DomainName) (earlier : List Entry) where
             ),
           )))))
 
-  sort_sure : (s : EntryKind)
+  pub sort_sure : (s : EntryKind)
       → Known earlier → Sure ((given : EntryMeaning) × KindGives o earlier s given)
   sort_sure no_words known = sure (gives [], refl)
   sort_sure (directive name ws) known =

@@ -8,7 +8,6 @@ take-requires g c = record {
   scanned = search rules;
   short = c.entries.invariant.short;
   few = search rules;
-  words_few = let few = c.as_slice.type_inv.1 in omega (arith, few);
 }
 
 pub returns-then-not-branch : goal.returns-then-not-branch

@@ -1,4 +1,5 @@
-use Rattle.dns_master.proofs.Common.{rules, ◌≡◌, ◌≤◌, ◌+◌, sym, ap, ◌∙◌, inl, inr, refl, subst, codes, List, [], ◌∷◌, length, Option, DomainName, Entry, Fields, fields, fault_of, option_or, nearest, ttl_word, directive_word, ttl_in_force, OriginIs, IsNoTtl, OtherClass, BadType, NoTtl, BadData, TooManyRecords, None, Some, words_left, ResourceRecord}
+use Rattle.dns_master.proofs.Common.{rules, ◌≡◌, ◌≤◌, ◌+◌, sym, ap, ◌∙◌, inl, inr, refl, subst, codes, List, [], ◌∷◌, length, Option, DomainName, Entry, Fields, fields, fault_of, option_or, nearest, ttl_word, directive_word, ttl_in_force, OriginIs, IsNoTtl, OtherClass, BadType, NoTtl, BadData, TooManyRecords, None, Some, ResourceRecord}
+use Rattle.std.specs.Option.{option_copied}
 use Rattle.dns_rdata.specs.RdataFault.{fault_code}
 use Rattle.dns_master.specs.EarlierForm.{SeenTtl, LooksBackTo}
 use Rattle.dns_master.specs.declared.earlier.Earlier.{Earlier}
@@ -10,20 +11,20 @@ use Rattle.dns_master.proofs.earlier.Earlier.take_fields.Goals.{After-is_other_c
 -- the TTL that the record states is valid
 module _ (c : After-is_other_class) (o : DomainName) (earlier : List Entry)
     (owner : Option DomainName) (known : LooksBackTo o earlier owner c.args.self.now) where
-  stated : SeenTtl (option_or c.fields.inside.ttl (nearest ttl_word earlier))
+  stated : SeenTtl (option_or (option_copied c.fields.inside.ttl) (nearest ttl_word earlier))
       c.pass_record.new.self.stated_ttl
-  stated = rw c.as_ref.ensures.value at c.pass_record.ensures.passed.stated_is _ known.stated_is
+  stated = c.pass_record.ensures.passed.stated_is _ known.stated_is
 
-  valid : IsNoTtl c.fields.inside.ttl → ⊥
+  valid : IsNoTtl (option_copied c.fields.inside.ttl) → ⊥
   valid = ttl-valid _ _ _ stated (search rules)
 
 -- what is known after the record was passed
 module _ (c : After-ttl_in_force) (o : DomainName) (earlier : List Entry)
     (owner : Option DomainName) (known : LooksBackTo o earlier owner c.args.self.now) where
-  now_in_force : SeenTtl (ttl_in_force earlier c.fields.inside.ttl) c.ttl_in_force.result
+  now_in_force : SeenTtl
+      (ttl_in_force earlier (option_copied c.fields.inside.ttl)) c.ttl_in_force.result
   now_in_force =
-      let stated = rw c.as_ref.ensures.value
-      at c.pass_record.ensures.passed.stated_is _ known.stated_is in
+      let stated = c.pass_record.ensures.passed.stated_is _ known.stated_is in
       rw c.ttl_in_force.ensures
       (in-force _ _ _ stated (nearest (directive_word (codes "$ttl")) earlier)
       c.pass_record.new.self.default_ttl c.is_some-is_stated.result (search rules)
@@ -89,7 +90,7 @@ returns-in-Err-clause-err c = λ some o earlier owner known. elim c.data_fault.e
       c.in-Some-ttl_in_force.ttl c.in-Some-ttl_in_force.is _ is
       (no_other at.After-ttl_in_force o earlier owner known)
       (rw c.in-Some.ensures.1 at c.in-Err.ensures.fault h.other))
-      (data-detail o earlier (words_left c.fields.inside.others) c.in-Some.rtype.0
+      (data-detail o earlier c.fields.inside.others.now c.in-Some.rtype.0
       c.self.inside.0.0 (fault_code c.in-Err.fault) n c.in-Some.ensures.0 is
       (rw c.in-Some.ensures.1 at c.in-Err.ensures.which h.other)
       (rw c.in-Some.ensures.1 at c.in-Err.ensures.faulty h.other)))
@@ -101,7 +102,7 @@ returns-in-Err-clause-few c = λ bad. elim c.data_fault.ensures [
   | inr h ↦
       subst (λ (f : Fields). c.read_words_in.new.buffers.words_before_fault ≤ 1 + length f.others)
       (c.fields.view_is ∙ c.of-fields.ensures)
-      (fields-data_few c.in-Some.rtype.0 (words_left c.fields.inside.others)
+      (fields-data_few c.in-Some.rtype.0 c.fields.inside.others.now
       c.self.inside.0.0 c.read_words_in.new.buffers.words_before_fault
       (rw c.in-Some.ensures.1 at c.in-Err.ensures.faulty h.other))
 ]
@@ -152,7 +153,7 @@ returns-clause-ok c = λ o earlier owner known.
       rtype = c.in-Some.rtype.0;
       rdata = c.replace.new.dest;
     } in
-    subst (λ n. FieldsGive o earlier n (fields (words_left c.args.words)) (r ∷ [])) same
+    subst (λ n. FieldsGive o earlier n (fields c.args.words.now) (r ∷ [])) same
     (subst (λ f. FieldsGive o earlier name f (r ∷ [])) (c.fields.view_is ∙ c.of-fields.ensures)
     (inl
     (record-own o earlier name _ _ _

@@ -1,4 +1,4 @@
-use Rattle.dns_master.proofs.Common.{subst, sym, ◌∙◌, fields, fault_of, words_left}
+use Rattle.dns_master.proofs.Common.{subst, sym, ◌∙◌, fields, fault_of}
 use Rattle.dns_master.specs.JudgeForm.{FieldsBlamed}
 use Rattle.dns_master.proofs.earlier.Earlier.take_record.Goals as goal
 
@@ -10,9 +10,9 @@ returns-in-Err-clause-err c = λ some o earlier owner known.
     let given = c.in-Err.ensures.err (λ e. some (same ∙ e)) o earlier owner known in (
       n,
       subst (λ k. FieldsBlamed o earlier c.args.self.now.last.owner
-          (fields (words_left c.args.words)) (fault_of k) blame.result.number n) (sym same)
+          (fields c.args.words.now) (fault_of k) blame.result.number n) (sym same)
           (subst (λ k. FieldsBlamed o earlier c.args.self.now.last.owner
-          (fields (words_left c.args.words)) (fault_of c.in-Err.fault.code) k n)
+          (fields c.args.words.now) (fault_of c.in-Err.fault.code) k n)
           (sym blame.ensures.number) given),
       rw same blame.ensures.words,
     )

@@ -1,7 +1,8 @@
-use Rattle.dns_master.proofs.Common.{rules, ◌≡◌, ◌+◌, ◌∷◌, ◌++◌, None, true, subst, sym, ap, ◌∙◌, arith, unwrap_or, bad_parenthesis, fault_code, ended, EntryKind, KindGives, faulty, line_after, IsWhole, fault_handed_on, later_words, kind_of, kind_by_words, fault_of}
+use Rattle.dns_master.proofs.Common.{rules, ◌≡◌, ◌+◌, ◌∷◌, ◌++◌, None, true, subst, sym, ap, ◌∙◌, arith, unwrap_or, bad_parenthesis, fault_code, ended, EntryKind, KindGives, faulty, gives, line_after, IsWhole, fault_handed_on, kind_of, kind_by_words, fault_of}
 use Rattle.dns_master.specs.EarlierForm.{handed}
 use Rattle.dns_master.specs.JudgeForm.{KindOwn}
-use Rattle.dns_master.proofs.TextSteps.{wrong-faulty, same_sort, entry-means, entry-faulty, entry-ends_faulty, entry-line, entry-shorter, entry-turns}
+use Rattle.dns_master.proofs.TextSteps.{wrong-faulty, same_sort, entry-means, entry-faulty, entry-ends_faulty, entry-line, entry-shorter}
+use Rattle.dns_master.proofs.CappedWords.{all-stored, stored-mean}
 use Rattle.dns_master.proofs.PieceSteps.{end-faulty, entry-on, sure-given, taken-known}
 use Rattle.dns_master.proofs.Refusals.{ForFault-map}
 use Rattle.dns_master.proofs.reader.Reader.take_entry.Goals as goal
@@ -9,13 +10,11 @@ use Rattle.dns_master.proofs.reader.Reader.take_entry.Goals.{After-is_some_and-i
 use Rattle.dns_spec.proofs.Common.{MatchBool-at_true}
 
 module _ (c : After-is_some_and-is_blank_led) where
-  -- the words found are the entry's words
+  -- the kind of the entry, by all its words
   sort : kind_of (ended c.in_ok-end.ensures.ok.read.tokens)
-      ≡ kind_by_words c.is_some_and-is_blank_led.result
-      (c.as_slice.result.now ++ later_words c.in_ok-end.end.later)
-  sort = same_sort c.args.text.now c.read_entry.new.kept.items c.as_slice.result.now
-      (later_words c.in_ok-end.end.later) _ _ c.is_some_and-is_blank_led.result
-      c.in_ok-end.ensures.ok.read (search rules) c.as_slice.ensures.value
+      ≡ kind_by_words c.is_some_and-is_blank_led.result c.in_ok-end.ensures.ok.all
+  sort = same_sort c.args.text.now _ _ _ c.is_some_and-is_blank_led.result
+      c.in_ok-end.ensures.ok.read (search rules)
 
   -- the entry is complete, whatever follows the text
   whole : IsWhole
@@ -48,6 +47,8 @@ pub returns-in-Err-clause-err : goal.returns-in-Err-clause-err
 returns-in-Err-clause-err c =
     let here = (goal.at.returns-in-Err-clause-err c).After-is_some_and-is_blank_led in
     let fault = fault_of c.in-Err.blame.code in
+    let b = c.is_some_and-is_blank_led.result in
+    let stored = c.as_slice.ensures.value ∙ c.in_ok-end.ensures.ok.stored in
     record {
       told = λ some more past may o earlier known line.
           let on = entry-on c.args.goes_on more past c.args.text.now c.in_ok-end.end.rest.now
@@ -55,7 +56,9 @@ returns-in-Err-clause-err c =
           rw line (entry-faulty o earlier past (c.args.text.now ++ more)
           (c.in_ok-end.end.rest.now ++ more) _ _ c.in_ok-end.end.is_ended c.in_ok-end.end.is_open
           on.0 on.1 fault (subst (λ (s : EntryKind). KindGives o earlier s (faulty fault))
-          (sym (sort here)) (c.in-Err.ensures.err some o earlier known.back).given));
+          (sym (sort here)) (stored-mean o earlier b _ (faulty fault)
+          (subst (λ ws. KindGives o earlier (kind_by_words b ws) (faulty fault)) stored
+          (c.in-Err.ensures.err some o earlier known.back).given))));
       source = c.in-Err.blame.source;
     }
 
@@ -65,22 +68,26 @@ returns-in-Ok-clause-ok c =
     let end = c.in_ok-end.end in
     let read = c.in_ok-end.ensures.ok.read in
     let rs = handed c.in-Ok.taken c.take.new.self.last in
+    let b = c.is_some_and-is_blank_led.result in
+    let stored = c.as_slice.ensures.value ∙ c.in_ok-end.ensures.ok.stored in
     record {
       taken = λ more past later may h o earlier known line.
           let on = entry-on c.args.goes_on more past c.args.text.now end.rest.now
           _ _ _ _ may (whole here) read in
-          let turns = entry-turns c.args.text.now end.rest.now read.tokens end.is_ended end.is_open
-          read.reads in
-          let own = subst (λ s. KindOwn o earlier s rs) (sym (sort here))
-          (c.in-Ok.ensures.ok o earlier known.back) in
-          let next = taken-known o earlier read.tokens rs turns c.args.self.now known own _
-          (c.in-Ok.ensures.passed o earlier (ended read.tokens) known.back (sort here)) in
+          let kept = c.in-Ok.ensures.ok o earlier known.back in
+          let all = all-stored o earlier b _ rs
+          (subst (λ ws. KindGives o earlier (kind_by_words b ws) (gives rs)) stored
+          (sure-given o earlier _ rs known.sound kept)) in
+          let same = sort here ∙ ap (kind_by_words b) (sym (stored ∙ all)) in
+          let own = subst (λ s. KindOwn o earlier s rs) (sym same) kept in
+          let next = taken-known o earlier (ended read.tokens) rs _ known.sound own
+          (c.in-Ok.ensures.passed o earlier (ended read.tokens) known.back same) in
           let line_is = ap (λ n. n + end.lines) line
           ∙ sym (entry-line o earlier true c.args.text.now end.rest.now
           _ _ end.is_ended end.is_open read) in
           entry-means o earlier past (c.args.text.now ++ more) (end.rest.now ++ more)
           _ _ end.is_ended end.is_open on.0 on.1 rs
-          (sure-given o earlier read.tokens rs turns c.args.self.now known own) later
+          (sure-given o earlier _ rs known.sound own) later
           (h o (ended read.tokens ∷ earlier) next line_is);
       shorter =
           entry-shorter (unwrap_or c.args.goes_on true) c.args.text.now end.rest.now

@@ -1,7 +1,6 @@
-use Rattle.dns_master.proofs.Common.{rules, ◌≢◌, subst, sym, ap, ◌∙◌, kind_by_words, fault_of, NoMemory}
+use Rattle.dns_master.proofs.Common.{rules, ◌≢◌, sym, ap, ◌∙◌, fault_of, NoMemory}
 use Rattle.std.specs.Option.{option_map}
 use Rattle.dns_master.specs.EarlierForm.{handed}
-use Rattle.dns_master.specs.JudgeForm.{KindOwn, Blamed}
 use Rattle.dns_master.specs.ListingForm.{PassesEntry}
 use Rattle.dns_master.proofs.ListingSteps.{stopped-fault, blamed-fault, entry-own, entry-kind}
 use Rattle.dns_master.proofs.scanned.ScannedEntry.take.Goals as goal
@@ -11,8 +10,7 @@ passed : (c : After-take-taken)
     → PassesEntry c.args.earlier.now c.args.self.now c.take-taken.new.self
 passed c = λ h o earlier known.
     c.take-taken.ensures.passed o earlier _ known
-    (entry-kind c.args.self.now h c.is_blank_led.result c.is_blank_led.ensures
-    ∙ ap (kind_by_words c.is_blank_led.result) (sym c.all_kept.ensures))
+    (entry-kind c.args.self.now h c.is_blank_led.result c.is_blank_led.ensures)
 
 pub returns-in-Some-clause-passed : goal.returns-in-Some-clause-passed
 returns-in-Some-clause-passed c =
@@ -41,8 +39,7 @@ returns-in-Ok-clause-taken c = λ o earlier known.
     entry-own c.args.self.now c.requires.scanned o earlier c.is_blank_led.result
     c.is_blank_led.ensures (sym c.lexical_code.ensures ∙ ap (option_map fault_of) c.in_default.is)
     rs
-    (subst (λ ws. KindOwn o earlier (kind_by_words c.is_blank_led.result ws) rs)
-    c.all_kept.ensures (c.in-Ok.ensures.ok o earlier known))
+    (c.in-Ok.ensures.ok o earlier known)
 
 pub returns-in-Err-2-clause-taken : goal.returns-in-Err-2-clause-taken
 returns-in-Err-2-clause-taken c = λ o earlier known.
@@ -51,5 +48,4 @@ returns-in-Err-2-clause-taken c = λ o earlier known.
     c.is_blank_led.ensures (sym c.lexical_code.ensures ∙ ap (option_map fault_of) c.in_default.is)
     c.fault_by.result c.in-Err-2.blame c.fault_by.ensures.code c.fault_by.ensures.number
     c.fault_by.ensures.place c.fault_by.ensures.entry
-    (subst (λ ws. Blamed o earlier (kind_by_words c.is_blank_led.result ws) c.in-Err-2.blame)
-    c.all_kept.ensures (c.in-Err-2.ensures.err some o earlier known))
+    (c.in-Err-2.ensures.err some o earlier known)

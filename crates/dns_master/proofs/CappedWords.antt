@@ -1,0 +1,193 @@
+-- An entry of more words than are stored is invalid, and so are its stored words.
+use Rattle.dns_master.proofs.Common.{◌≡◌, ℕ, zero, suc, ◌+◌, ◌<◌, ◌≤◌, inl, inr, Bool, true, false, if◌then◌else◌, List, [], ◌∷◌, length, length-drop, take, take_all, drop, refl, sym, ◌∙◌, subst, arith, codes, DomainName, ResourceRecord, Word, Entry, FileFault, bad_owner, no_owner, directive, owned, unowned, EntryMeaning, gives, faulty, Nothing, NameIs, OwnerBefore, TtlSays, Fields, fields, TypeIs, DataIs, RecordGives, KindGives, kind_by_words, is_directive, text_in_lower_case, Octets, most_words}
+use Rattle.std.specs.Bool.{MatchBool}
+use Rattle.std.proofs.lemmas.Bool.{cases_lt}
+use Rattle.std.proofs.lemmas.List.{length-take}
+use Rattle.dns_spec.specs.FileFaults.{unknown_directive}
+use Rattle.dns_spec.specs.Names.{octets_equal}
+use Rattle.dns_spec.specs.Meaning.{class_after, ttl_after, is_ttl_word, is_class_word, DirectiveSays, DirectiveGives}
+use Rattle.dns_spec.proofs.DataWords.FewWords.{few_words}
+use Rattle.dns_spec.proofs.ZoneTexts.SomeMeaning.{faultless}
+
+-- fields with only the first m words from the type on
+abbrev cut_to : ℕ → Fields → Fields
+cut_to m f = record { ttl = f.ttl; class = f.class; others = take m f.others }
+
+-- g has the fields of the first n words, and f those of all words; at most two of these words
+-- precede the type
+abbrev Cut : ℕ → ℕ → Fields → Fields → Type 0
+Cut n count g f =
+    (m : ℕ) × (n ≤ m + 2) × (count ≤ length f.others + 2) × (g ≡ cut_to m f)
+
+cut-either : (n count : ℕ) (b : Bool) (g g' f f' : Fields) → Cut n count g f → Cut n count g' f'
+    → Cut n count (if b then g else g') (if b then f else f')
+cut-either n count true g g' f f' h h' = h
+cut-either n count false g g' f f' h h' = h'
+
+class-cut : (k : ℕ) (w : Word) (ws : List Word) → Cut (suc (suc k)) (length (w ∷ ws))
+    (class_after w (take (suc k) ws)) (class_after w ws)
+class-cut k w [] = (suc k, omega arith, omega arith, refl)
+class-cut k w (v ∷ ws) =
+    cut-either _ _ (is_class_word v) _ _ _ _
+    (k, omega arith, omega arith, refl) (suc k, omega arith, omega arith, refl)
+
+ttl-cut : (k : ℕ) (w : Word) (ws : List Word) → Cut (suc (suc k)) (length (w ∷ ws))
+    (ttl_after w (take (suc k) ws)) (ttl_after w ws)
+ttl-cut k w [] = (suc k, omega arith, omega arith, refl)
+ttl-cut k w (v ∷ ws) =
+    cut-either _ _ (is_ttl_word v) _ _ _ _
+    (k, omega arith, omega arith, refl) (suc k, omega arith, omega arith, refl)
+
+fields-cut : (k : ℕ) (ws : List Word)
+    → Cut (suc (suc k)) (length ws) (fields (take (suc (suc k)) ws)) (fields ws)
+fields-cut k [] = (suc (suc k), omega arith, omega arith, refl)
+fields-cut k (w ∷ ws) =
+    cut-either _ _ (is_ttl_word w) _ _ _ _ (class-cut k w ws)
+    (cut-either _ _ (is_class_word w) _ _ _ _ (ttl-cut k w ws)
+    (suc (suc k), omega arith, omega arith, refl))
+
+type-cut : (m : ℕ) (ws : List Word) (t : ℕ) → TypeIs (take (suc m) ws) t → TypeIs ws t
+type-cut m [] t h = absurd h
+type-cut m (w ∷ ws) t h = h
+
+type-all : (m : ℕ) (ws : List Word) (t : ℕ) → TypeIs ws t → TypeIs (take (suc m) ws) t
+type-all m [] t h = absurd h
+type-all m (w ∷ ws) t h = h
+
+-- a meaning is a fault
+abbrev Refuses : EntryMeaning → Type 0
+Refuses given = (rs : List ResourceRecord) → given ≡ gives rs → ⊥
+
+is-fault : (given : EntryMeaning) (code : FileFault) → given ≡ faulty code → Refuses given
+is-fault given code is rs e = faultless rs code (sym e ∙ is)
+
+-- two arguments or more are invalid
+says-cut : {A : Type 0} (P : A → Word → Type 0) (w v : Word) (some all : List Word)
+    (given : EntryMeaning) → DirectiveSays P (w ∷ v ∷ some) given
+    → DirectiveSays P (w ∷ v ∷ all) given × Refuses given
+says-cut P w v some all given (inl (none, is)) = (inl (none, is), is-fault given _ is)
+says-cut P w v some all given (inr (one, is)) = absurd (one (λ x h. h))
+
+module _ (o : DomainName) (earlier : List Entry) where
+  -- so many words spell no data
+  no-data : (ws : List Word) → 65538 < length ws → Nothing (DataIs o earlier ws)
+  no-data ws long d (t, is, (m, origin, says)) =
+      omega (arith, long, length-drop 1 ws, few_words t (drop 1 ws) m d says)
+
+  record-cut : (code : FileFault) (Owner : DomainName → Type 0) (m : ℕ) (f : Fields)
+      (given : EntryMeaning) → 65538 < length f.others → 65538 < length (take (suc m) f.others)
+      → RecordGives o earlier code Owner (cut_to (suc m) f) given
+      → RecordGives o earlier code Owner f given × Refuses given
+  record-cut code Owner m f given long long' (inl (none, is)) =
+      (inl (none, is), is-fault given _ is)
+  record-cut code Owner m f given long long' (inr (owner, inl (ttl, is))) =
+      (inr (owner, inl (ttl, is)), is-fault given _ is)
+  record-cut code Owner m f given long long' (inr (owner, inr (ttl, inl (class, is)))) =
+      (inr (owner, inr (ttl, inl (class, is))), is-fault given _ is)
+  record-cut code Owner m f given long long'
+      (inr (owner, inr (ttl, inr (class, inl (none, is))))) = (
+        inr (owner, inr (ttl, inr (class, inl (λ t h. none t (type-all m f.others t h), is)))),
+        is-fault given _ is,
+      )
+  record-cut code Owner m f given long long'
+      (inr (owner, inr (ttl, inr (class, inr (typed, inl (none, is)))))) = (
+        inr (owner, inr (ttl, inr (class, inr (has-type typed, inl (none, is))))),
+        is-fault given _ is,
+      )
+    where
+      has-type : (Nothing (TypeIs (take (suc m) f.others)) → ⊥) → Nothing (TypeIs f.others) → ⊥
+      has-type typed none = typed (λ t h. none t (type-cut m f.others t h))
+  record-cut code Owner m f given long long'
+      (inr (owner, inr (ttl, inr (class, inr (typed, inr (in_force, inl (none, is))))))) = (
+        inr (
+          owner,
+          inr (
+            ttl,
+            inr (
+              class,
+              inr (
+                λ untyped. typed (λ t h. untyped t (type-cut m f.others t h)),
+                inr (in_force, inl (no-data f.others long, is)),
+              ),
+            ),
+          ),
+        ),
+        is-fault given _ is,
+      )
+  record-cut code Owner m f given long long'
+      (inr (owner, inr (ttl, inr (class, inr (typed, inr (in_force, inr (spelled, rest))))))) =
+      absurd (spelled (no-data (take (suc m) f.others) long'))
+
+  directive-cut : (name : Octets) (w v : Word) (some all : List Word) (given : EntryMeaning)
+      → DirectiveGives o earlier name (w ∷ v ∷ some) given
+      → DirectiveGives o earlier name (w ∷ v ∷ all) given × Refuses given
+  directive-cut name w v some all given =
+      go (octets_equal name (codes "$origin")) (octets_equal name (codes "$ttl"))
+    where
+      Gives : Bool → Bool → List Word → Type 0
+      Gives a b ws = MatchBool a (DirectiveSays (λ n u. NameIs o earlier u n) ws given)
+          (MatchBool b (DirectiveSays (λ n u. TtlSays u n) ws given)
+          (given ≡ faulty unknown_directive))
+
+      go : (a b : Bool) → Gives a b (w ∷ v ∷ some) → Gives a b (w ∷ v ∷ all) × Refuses given
+      go true b h = says-cut (λ n u. NameIs o earlier u n) w v some all given h
+      go false true h = says-cut (λ n u. TtlSays u n) w v some all given h
+      go false false h = (h, is-fault given _ h)
+
+  -- the meaning of a record by its first words after the owner, which are more than may be valid
+  words-cut : (code : FileFault) (Owner : DomainName → Type 0) (k : ℕ) (ws : List Word)
+      (given : EntryMeaning) → 65539 ≤ k → suc (suc k) ≤ length ws
+      → RecordGives o earlier code Owner (fields (take (suc (suc k)) ws)) given
+      → RecordGives o earlier code Owner (fields ws) given × Refuses given
+  words-cut code Owner k ws given most full h = by_cut (fields-cut k ws)
+    where
+      by_cut : Cut (suc (suc k)) (length ws) (fields (take (suc (suc k)) ws)) (fields ws)
+          → RecordGives o earlier code Owner (fields ws) given × Refuses given
+      by_cut (zero, few, left, is) = absurd (omega (arith, few, most))
+      by_cut (suc m, few, left, is) =
+          let long : 65538 < length (fields ws).others = omega (arith, left, full, most) in
+          record-cut code Owner m (fields ws) given long
+          (omega (arith, length-take (suc m) (fields ws).others, long, few, most))
+          (subst (λ f. RecordGives o earlier code Owner f given) is h)
+
+  -- an entry of more words than may be valid, by the first of them
+  kind-cut : (k : ℕ) (b : Bool) (ws : List Word) (given : EntryMeaning) → 65539 ≤ k
+      → suc (suc (suc k)) ≤ length ws
+      → KindGives o earlier (kind_by_words b (take (suc (suc (suc k))) ws)) given
+      → KindGives o earlier (kind_by_words b ws) given × Refuses given
+  kind-cut k b [] given most full h = absurd (omega (arith, full))
+  kind-cut k b (w ∷ []) given most full h = absurd (omega (arith, full))
+  kind-cut k b (w ∷ v ∷ []) given most full h = absurd (omega (arith, full))
+  kind-cut k b (w ∷ v ∷ u ∷ ws) given most full h = go b (is_directive w) h
+    where
+      Gives : Bool → Bool → List Word → Type 0
+      Gives b d others = KindGives o earlier
+          (if b then unowned (w ∷ others)
+          else if d then directive (text_in_lower_case w.raw) others else owned w others) given
+
+      go : (b d : Bool) → Gives b d (take (suc (suc k)) (v ∷ u ∷ ws))
+          → Gives b d (v ∷ u ∷ ws) × Refuses given
+      go true d h = words-cut no_owner (OwnerBefore o earlier) (suc k) (w ∷ v ∷ u ∷ ws) given
+          (omega (arith, most)) full h
+      go false true h = directive-cut (text_in_lower_case w.raw) v u (take k ws) ws given h
+      go false false h = words-cut bad_owner (NameIs o earlier w) k (v ∷ u ∷ ws) given
+          most (omega (arith, full)) h
+
+  -- an entry means what its stored words mean
+  pub stored-mean : (b : Bool) (ws : List Word) (given : EntryMeaning)
+      → KindGives o earlier (kind_by_words b (take most_words ws)) given
+      → KindGives o earlier (kind_by_words b ws) given
+  stored-mean b ws given h = elim (cases_lt (length ws) most_words) [
+    | inl few ↦ subst (λ all. KindGives o earlier (kind_by_words b all) given)
+        (take_all most_words ws (omega (arith, few))) h
+    | inr full ↦ (kind-cut 65539 b ws given (omega arith) full h).0
+  ]
+
+  -- all words of an entry without a fault are stored
+  pub all-stored : (b : Bool) (ws : List Word) (rs : List ResourceRecord)
+      → KindGives o earlier (kind_by_words b (take most_words ws)) (gives rs)
+      → take most_words ws ≡ ws
+  all-stored b ws rs h = elim (cases_lt (length ws) most_words) [
+    | inl few ↦ take_all most_words ws (omega (arith, few))
+    | inr full ↦ absurd ((kind-cut 65539 b ws (gives rs) (omega arith) full h).1 rs refl)
+  ]
