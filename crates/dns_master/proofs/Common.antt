@@ -5,7 +5,7 @@ pub use Rattle.std.specs.Cmp.Lexicographic.{pointwise, same_text}
 pub use Rattle.std.specs.List.{position}
 pub use Rattle.std.proofs.lemmas.List.{at_drop_more}
 pub use Rattle.dns_master.specs.Codes.{ForFault, IsFaultOn, OfEntry, OfFile, code_number, failures_after_read, fault_of}
-pub use Rattle.dns_master.specs.EntryForm.{EntryRead, IsWhole, IsWrong, Outcome, Reads, Step, TextMeans, line_ends, misplaced, onward, outcome_of, over, step, token_words, unended, wrong}
+pub use Rattle.dns_master.specs.EntryForm.{EntryRead, IsWhole, Reads, Step, TextMeans, line_ends, misplaced, onward, ending_of, over, step, token_words}
 pub use Rattle.dns_master.specs.PieceForm.{AllGive, FrontFaulty, FrontAdded, FrontTaken, Knows, MayFollow, PieceFaulty, PieceTaken, ReaderMeans, TextAdded}
 pub use Rattle.dns_master.specs.RecordForm.{IsKept, LastOwner, SpelledName, SpelledOwner}
 pub use Rattle.dns_master.specs.SourceForm.{AppendsPiece, Decides, IsRead, ReadsFile}

@@ -1,7 +1,7 @@
 -- Reading an entry token by token finds the entries into which a text's tokens are cut.
-use Rattle.dns_master.proofs.Common.{◌≡◌, ℕ, Bool, true, false, ◌&&◌, ◌==◌, not, List, [], ◌∷◌, ◌++◌, refl, sym, ap, ◌∙◌, subst, Some, None, ◌⊎◌, inl, inr, arith, false≢true, eq-eqb, none-some, cons_option, Octets, Token, token_front, TokensThen, parenthesis, parentheses, is_line_end, open_after, before_first, cut_entries, take_turns, is_cut_short, fold, Loose, front_kept, cut_none, Step, misplaced, over, onward, step, Outcome, unended, wrong, Reads}
+use Rattle.dns_master.proofs.Common.{◌≡◌, ℕ, Bool, true, false, ◌&&◌, ◌==◌, not, List, [], ◌∷◌, ◌++◌, refl, sym, ap, ◌∙◌, subst, Some, None, ◌⊎◌, inl, inr, arith, false≢true, eq-eqb, none-some, cons_option, Octets, Token, token_front, TokensThen, parenthesis, parentheses, is_line_end, open_after, before_first, cut_entries, take_turns, is_cut_short, fold, Loose, front_kept, cut_none, Step, misplaced, over, onward, step, Reads}
 use mathlib.Core.Bool.{xor}
-use Rattle.dns_master.specs.EntryForm.{ended}
+use Rattle.dns_spec.specs.EntryPlaces.{Ending, after_line, at_parenthesis, at_stop}
 use Rattle.dns_spec.proofs.ZoneTexts.BeginningsMean.{cut-on}
 
 step_code : Step → ℕ
@@ -14,10 +14,10 @@ step_open misplaced = false
 step_open over = false
 step_open (onward b) = b
 
-outcome_code : Outcome → ℕ
-outcome_code (ended o) = 0
-outcome_code (unended b o) = 1
-outcome_code wrong = 2
+ending_code : Ending → ℕ
+ending_code (after_line o) = 0
+ending_code (at_stop b o) = 1
+ending_code (at_parenthesis o) = 2
 
 -- a token after which the entry goes on
 record Goes (b : Bool) (p : Token) (now : Bool) : Type 0 where
@@ -132,69 +132,70 @@ wrong-on b now text others' p ps front g c =
           };
     }
 
-other_outcome : (o : Outcome) (u : Outcome) → (outcome_code o == outcome_code u) ≡ false → o ≡ u → ⊥
-other_outcome o u h e = grind (arith, false≢true, outcome_code, eq-eqb)
+other_ending : (o : Ending) (u : Ending) → (ending_code o == ending_code u) ≡ false → o ≡ u → ⊥
+other_ending o u h e = grind (arith, false≢true, ending_code, eq-eqb)
 
-outcome_rest : Outcome → Octets
-outcome_rest (ended o) = o
-outcome_rest (unended b o) = o
-outcome_rest wrong = []
+ending_rest : Ending → Octets
+ending_rest (after_line o) = o
+ending_rest (at_stop b o) = o
+ending_rest (at_parenthesis o) = o
 
-outcome_open : Outcome → Bool
-outcome_open (ended o) = false
-outcome_open (unended b o) = b
-outcome_open wrong = false
+ending_open : Ending → Bool
+ending_open (after_line o) = false
+ending_open (at_stop b o) = b
+ending_open (at_parenthesis o) = false
 
 pub reads-ended : (b : Bool) (text : Octets) (ps : List Token) (others : Octets)
-    → Reads b text ps (ended others) → EndedCut b text ps others
-unfolding outcome_code outcome_rest
-reads-ended b text [] others h = absurd (other_outcome (ended others) (unended b text) refl h.1)
+    → Reads b text ps (after_line others) → EndedCut b text ps others
+unfolding ending_code ending_rest
+reads-ended b text [] others h = absurd (other_ending (after_line others) (at_stop b text) refl h.1)
 reads-ended b text (p ∷ ps) others h = go (step b p) refl h.2 (λ now. reads-ended now h.0 ps others)
   where
     go : (s : Step) → step b p ≡ s → elim s as (λ _. Type 0) [
       | misplaced ↦
-          (ps ≡ []) × (ended others ≡ wrong)
-      | over ↦ (ps ≡ []) × (ended others ≡ ended h.0)
-      | onward now ↦ Reads now h.0 ps (ended others)
+          (ps ≡ []) × (after_line others ≡ at_parenthesis text)
+      | over ↦ (ps ≡ []) × (after_line others ≡ after_line h.0)
+      | onward now ↦ Reads now h.0 ps (after_line others)
     ] → ((now : Bool) → Reads now h.0 ps
-        (ended others) → EndedCut now h.0 ps others) → EndedCut b text (p ∷ ps) others
-    go misplaced e k more = absurd (other_outcome (ended others) wrong refl k.1)
+        (after_line others) → EndedCut now h.0 ps others) → EndedCut b text (p ∷ ps) others
+    go misplaced e k more = absurd (other_ending (after_line others) (at_parenthesis text) refl k.1)
     go over e k more = grind arith
     go (onward now) e k more = ended-on b now text h.0 others p ps h.1 (goes b p now e) (more now k)
 
 pub reads-unended : (b : Bool) (text : Octets) (ps : List Token) (last : Bool) (rest : Octets)
-    → Reads b text ps (unended last rest) → UnendedCut b text ps last rest
-unfolding outcome_code outcome_rest outcome_open
+    → Reads b text ps (at_stop last rest) → UnendedCut b text ps last rest
+unfolding ending_code ending_rest ending_open
 reads-unended b text [] last rest h = grind arith
 reads-unended b text (p ∷ ps) last rest h =
     go (step b p) refl h.2 (λ now. reads-unended now h.0 ps last rest)
   where
     go : (s : Step) → step b p ≡ s → elim s as (λ _. Type 0) [
-      | misplaced ↦ (ps ≡ []) × (unended
-          last rest ≡ wrong)
-      | over ↦ (ps ≡ []) × (unended last rest ≡ ended h.0)
+      | misplaced ↦ (ps ≡ []) × (at_stop
+          last rest ≡ at_parenthesis text)
+      | over ↦ (ps ≡ []) × (at_stop last rest ≡ after_line h.0)
       | onward now ↦ Reads
-          now h.0 ps (unended last rest)
-    ] → ((now : Bool) → Reads now h.0 ps (unended last rest)
+          now h.0 ps (at_stop last rest)
+    ] → ((now : Bool) → Reads now h.0 ps (at_stop last rest)
         → UnendedCut now h.0 ps last rest) → UnendedCut b text (p ∷ ps) last rest
-    go misplaced e k more = absurd (other_outcome (unended last rest) wrong refl k.1)
-    go over e k more = absurd (other_outcome (unended last rest) (ended h.0) refl k.1)
+    go misplaced e k more = absurd (other_ending (at_stop last rest) (at_parenthesis text) refl k.1)
+    go over e k more = absurd (other_ending (at_stop last rest) (after_line h.0) refl k.1)
     go (onward now) e k more =
         unended-on b now last text h.0 rest p ps h.1 (goes b p now e) (more now k)
 
-pub reads-wrong : (b : Bool) (text : Octets) (ps : List Token)
-    → Reads b text ps wrong → WrongCut b text ps
-unfolding outcome_code
-reads-wrong b text [] h = absurd (other_outcome wrong (unended b text) refl h.1)
-reads-wrong b text (p ∷ ps) h = go (step b p) refl h.2 (λ now. reads-wrong now h.0 ps)
+pub reads-wrong : (b : Bool) (text : Octets) (ps : List Token) (place : Octets)
+    → Reads b text ps (at_parenthesis place) → WrongCut b text ps
+unfolding ending_code
+reads-wrong b text [] place h =
+    absurd (other_ending (at_parenthesis place) (at_stop b text) refl h.1)
+reads-wrong b text (p ∷ ps) place h =
+    go (step b p) refl h.2 (λ now. reads-wrong now h.0 ps place)
   where
     go : (s : Step) → step b p ≡ s → elim s as (λ _. Type 0) [
-      | misplaced ↦ (ps ≡ []) × (wrong
-          ≡ wrong)
-      | over ↦ (ps ≡ []) × (wrong ≡ ended h.0)
-      | onward now ↦ Reads now h.0 ps wrong
-    ]
-        → ((now : Bool) → Reads now h.0 ps wrong → WrongCut now h.0 ps) → WrongCut b text (p ∷ ps)
+      | misplaced ↦ (ps ≡ []) × (at_parenthesis place ≡ at_parenthesis text)
+      | over ↦ (ps ≡ []) × (at_parenthesis place ≡ after_line h.0)
+      | onward now ↦ Reads now h.0 ps (at_parenthesis place)
+    ] → ((now : Bool) → Reads now h.0 ps (at_parenthesis place) → WrongCut now h.0 ps)
+        → WrongCut b text (p ∷ ps)
     go misplaced e k more =
         let bad = misses b p e in
         subst (λ xs. WrongCut b text (p ∷ xs)) (sym k.0)
@@ -210,54 +211,56 @@ reads-wrong b text (p ∷ ps) h = go (step b p) refl h.2 (λ now. reads-wrong no
                 turns = bad.turns (parentheses more_first.first);
               };
         })
-    go over e k more = absurd (other_outcome wrong (ended h.0) refl k.1)
+    go over e k more = absurd (other_ending (at_parenthesis place) (after_line h.0) refl k.1)
     go (onward now) e k more = wrong-on b now text h.0 p ps h.1 (goes b p now e) (more now k)
 
--- an entry that has ended stays the same however the text goes on
+-- an entry that has after_line stays the same however the text goes on
 pub reads-more : (more : Octets) (b : Bool) (text : Octets) (ps : List Token) (rest : Octets)
-    → Reads b text ps (ended rest) → Reads b (text ++ more) ps (ended (rest ++ more))
-unfolding outcome_code outcome_rest
-reads-more more b text [] rest h = absurd (other_outcome (ended rest) (unended b text) refl h.1)
+    → Reads b text ps (after_line rest) → Reads b (text ++ more) ps (after_line (rest ++ more))
+unfolding ending_code ending_rest
+reads-more more b text [] rest h = absurd (other_ending (after_line rest) (at_stop b text) refl h.1)
 reads-more more b text (p ∷ ps) rest (others, front, tail) =
     go (front_kept more text p others front) (λ now k. reads-more more now others ps rest k)
   where
     longer : (s : Step) → elim s as (λ _. Type 0) [
-      | misplaced ↦ (ps ≡ []) × (ended rest ≡ wrong)
-      | over ↦ (ps ≡ []) × (ended rest ≡ ended others)
+      | misplaced ↦ (ps ≡ []) × (after_line rest ≡ at_parenthesis text)
+      | over ↦ (ps ≡ []) × (after_line rest ≡ after_line others)
       | onward now ↦ Reads now others ps
-          (ended rest)
-    ] → ((now : Bool) → Reads now others ps (ended rest) → Reads now
-        (others ++ more) ps (ended (rest ++ more))) → elim s as (λ _. Type 0) [
+          (after_line rest)
+    ] → ((now : Bool) → Reads now others ps (after_line rest) → Reads now
+        (others ++ more) ps (after_line (rest ++ more))) → elim s as (λ _. Type 0) [
           | misplaced ↦ (ps
-              ≡ []) × (ended (rest ++ more) ≡ wrong)
-          | over ↦ (ps ≡ []) × (ended (rest ++ more) ≡ ended
+              ≡ []) × (after_line (rest ++ more) ≡ at_parenthesis (text ++ more))
+          | over ↦ (ps ≡ []) × (after_line (rest ++ more) ≡ after_line
               (others ++ more))
-          | onward now ↦ Reads now (others ++ more) ps (ended (rest ++ more))
+          | onward now ↦ Reads now (others ++ more) ps (after_line (rest ++ more))
         ]
-    longer misplaced k later = absurd (other_outcome (ended rest) wrong refl k.1)
-    longer over k later = (k.0, ap (λ (x : Octets). ended (x ++ more)) (ap outcome_rest k.1))
+    longer misplaced k later =
+        absurd (other_ending (after_line rest) (at_parenthesis text) refl k.1)
+    longer over k later = (k.0, ap (λ (x : Octets). after_line (x ++ more)) (ap ending_rest k.1))
     longer (onward now) k later = later now k
 
     stops : (now : Bool) (qs : List Token)
-        → token_front others ≡ None → Reads now others qs (ended rest) → ⊥
-    stops now [] none k = other_outcome (ended rest) (unended now others) refl k.1
+        → token_front others ≡ None → Reads now others qs (after_line rest) → ⊥
+    stops now [] none k = other_ending (after_line rest) (at_stop now others) refl k.1
     stops now (q ∷ qs) none k = none-some (q, k.0) (sym none ∙ k.1)
 
     never : (s : Step) → step b p ≡ s → is_line_end p ≡ false → token_front others ≡ None
         → elim s as (λ _. Type 0) [
-          | misplaced ↦ (ps ≡ []) × (ended rest ≡ wrong)
+          | misplaced ↦ (ps ≡ []) × (after_line rest ≡ at_parenthesis text)
           | over ↦ (ps ≡ [])
-              × (ended rest ≡ ended others)
-          | onward now ↦ Reads now others ps (ended rest)
+              × (after_line rest ≡ after_line others)
+          | onward now ↦ Reads now others ps (after_line rest)
         ] → ⊥
-    never misplaced e inside none k = other_outcome (ended rest) wrong refl k.1
+    never misplaced e inside none k = other_ending (after_line rest) (at_parenthesis text) refl k.1
     never over e inside none k =
         false≢true (sym (ap (λ x. x && not b) inside) ∙ (ends b p e).is_end)
     never (onward now) e inside none k = stops now ps none k
 
     go : (token_front (text ++ more) ≡ Some (p, others ++ more)) ⊎ ((is_cut_short others ≡ true)
-        × Loose p) → ((now : Bool) → Reads now others ps (ended rest) → Reads now (others ++ more)
-        ps (ended (rest ++ more))) → Reads b (text ++ more) (p ∷ ps) (ended (rest ++ more))
+        × Loose p) → ((now : Bool) → Reads now others ps (after_line rest)
+        → Reads now (others ++ more) ps (after_line (rest ++ more)))
+        → Reads b (text ++ more) (p ∷ ps) (after_line (rest ++ more))
     go (inl kept) later = (others ++ more, kept, longer (step b p) tail later)
     go (inr (cut, loose)) later =
         absurd (never (step b p) refl loose.inside (cut_none others cut) tail)

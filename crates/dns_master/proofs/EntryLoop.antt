@@ -1,11 +1,11 @@
 -- Reading an entry token by token: the tokens so far, followed by the remaining ones, are those of
 -- the entry.
-use Rattle.dns_master.proofs.Common.{◌≡◌, ℕ, ◌+◌, ◌≤◌, Bool, true, false, cond, List, [], ◌∷◌, ◌++◌, length, refl, sym, ap, ◌∙◌, subst, arith, append_assoc, append-nil, Some, None, Octets, Word, Token, token_front, is_line_end, word_of, filter, cons_option, front-shorter, misplaced, over, onward, step, Outcome, unended, wrong, Reads, token_words, line_ends, EntryRead, IsWrong, is_blank, drop, prefix_len}
+use Rattle.dns_master.proofs.Common.{◌≡◌, ℕ, ◌+◌, ◌≤◌, Bool, true, false, cond, List, [], ◌∷◌, ◌++◌, length, refl, sym, ap, ◌∙◌, subst, arith, append_assoc, append-nil, Some, None, Octets, Word, Token, token_front, is_line_end, word_of, filter, cons_option, front-shorter, misplaced, over, onward, step, Reads, token_words, line_ends, EntryRead, is_blank, drop, prefix_len}
 use Rattle.dns_master.proofs.RunLemmas.{blank-first}
 use Rattle.dns_master.proofs.Common.{◌<◌, length-append, take, take_all}
 use Rattle.std.proofs.lemmas.List.{length-take, take-append-le}
 use Rattle.dns_spec.specs.ZoneText.{blank}
-use Rattle.dns_master.specs.EntryForm.{ended}
+use Rattle.dns_spec.specs.EntryPlaces.{Ending, after_line, at_parenthesis, at_stop}
 use Rattle.dns_spec.proofs.General.Options.{cons_option-append}
 
 pub words-append : (ps qs : List Token) → token_words (ps ++ qs) ≡ token_words ps ++ token_words qs
@@ -63,8 +63,8 @@ module _ (text : Octets) where
   pub record EntrySoFar
       (is_open : Bool) (rest : Octets) (words : List Word) (lines : ℕ) : Type 0 where
     pub tokens : List Token
-    pub whole : (ps : List Token) (outcome : Outcome)
-        → Reads is_open rest ps outcome → Reads false text (tokens ++ ps) outcome
+    pub whole : (ps : List Token) (ending : Ending)
+        → Reads is_open rest ps ending → Reads false text (tokens ++ ps) ending
     pub same_words : words ≡ token_words tokens
     pub counted : lines ≡ line_ends tokens
 
@@ -76,9 +76,9 @@ module _ (text : Octets) where
   token-read is_open now_open rest others p words lines lines' so front goes_on l =
       record {
         tokens = so.tokens ++ p ∷ [];
-        whole = λ ps outcome h.
-            subst (λ xs. Reads false text xs outcome) (sym (append_assoc so.tokens (p ∷ []) ps))
-            (so.whole (p ∷ ps) outcome (others, front, rw goes_on h));
+        whole = λ ps ending h.
+            subst (λ xs. Reads false text xs ending) (sym (append_assoc so.tokens (p ∷ []) ps))
+            (so.whole (p ∷ ps) ending (others, front, rw goes_on h));
         same_words = ap (λ x. x ++ token_words (p ∷ [])) so.same_words
             ∙ sym (words-append so.tokens (p ∷ []));
         counted =
@@ -105,11 +105,11 @@ module _ (text : Octets) where
   pub entry-ended : (is_open : Bool) (rest others : Octets) (p : Token) (words words' : List Word)
       (lines lines' : ℕ) → EntrySoFar is_open rest words lines → token_front rest ≡ Some (p, others)
       → step is_open p ≡ over → words' ≡ words ++ token_words (p ∷ [])
-      → lines' ≡ lines + line_ends (p ∷ []) → EntryRead text words' lines' (ended others)
+      → lines' ≡ lines + line_ends (p ∷ []) → EntryRead text words' lines' (after_line others)
   entry-ended is_open rest others p words words' lines lines' so front is_over w l =
       record {
         tokens = so.tokens ++ p ∷ [];
-        reads = so.whole (p ∷ []) (ended others) (others, front, rw is_over (refl, refl));
+        reads = so.whole (p ∷ []) (after_line others) (others, front, rw is_over (refl, refl));
         words_are = w ∙ ap (λ x. x ++ token_words (p ∷ [])) so.same_words
             ∙ sym (words-append so.tokens (p ∷ []));
         counted =
@@ -119,18 +119,27 @@ module _ (text : Octets) where
   -- the entry is over if no token begins the rest
   pub entry-unended : (is_open : Bool) (rest : Octets) (words words' : List Word) (lines : ℕ)
       → EntrySoFar is_open rest words lines → token_front rest ≡ None → words' ≡ words
-      → EntryRead text words' lines (unended is_open rest)
+      → EntryRead text words' lines (at_stop is_open rest)
   entry-unended is_open rest words words' lines so none w =
       record {
         tokens = so.tokens;
-        reads = subst (λ xs. Reads false text xs (unended is_open rest))
-            (append-nil so.tokens) (so.whole [] (unended is_open rest) (none, refl));
+        reads = subst (λ xs. Reads false text xs (at_stop is_open rest))
+            (append-nil so.tokens) (so.whole [] (at_stop is_open rest) (none, refl));
         words_are = w ∙ so.same_words;
         counted = so.counted;
       }
 
-  pub entry-wrong : (is_open : Bool) (rest others : Octets)
-      (p : Token) (words : List Word) (lines : ℕ) → EntrySoFar is_open rest words lines
-      → token_front rest ≡ Some (p, others) → step is_open p ≡ misplaced → IsWrong text
-  entry-wrong is_open rest others p words lines so front is_wrong =
-      (so.tokens ++ p ∷ [], so.whole (p ∷ []) wrong (others, front, rw is_wrong (refl, refl)))
+  -- a misplaced parenthesis ends the entry
+  pub entry-wrong : (is_open : Bool) (rest others : Octets) (p : Token) (words words' : List Word)
+      (lines lines' : ℕ) → EntrySoFar is_open rest words lines → token_front rest ≡ Some (p, others)
+      → step is_open p ≡ misplaced → words' ≡ words ++ token_words (p ∷ [])
+      → lines' ≡ lines + line_ends (p ∷ []) → EntryRead text words' lines' (at_parenthesis rest)
+  entry-wrong is_open rest others p words words' lines lines' so front is_wrong w l =
+      record {
+        tokens = so.tokens ++ p ∷ [];
+        reads = so.whole (p ∷ []) (at_parenthesis rest) (others, front, rw is_wrong (refl, refl));
+        words_are = w ∙ ap (λ x. x ++ token_words (p ∷ [])) so.same_words
+            ∙ sym (words-append so.tokens (p ∷ []));
+        counted =
+            l ∙ ap (λ n. n + line_ends (p ∷ [])) so.counted ∙ sym (lines-append so.tokens (p ∷ []));
+      }

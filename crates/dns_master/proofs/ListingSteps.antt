@@ -3,26 +3,23 @@ use Rattle.dns_master.proofs.Common.{◌≡◌, ℕ, zero, suc, ◌+◌, ◌-◌
 use Rattle.dns_spec.specs.FileFaults.{bad_octet, bad_escape, unended_string, unknown_directive, bad_ttl, unreadable, no_memory}
 use Rattle.dns_spec.specs.ZoneText.{lexical_fault}
 use Rattle.dns_spec.specs.EntryPlaces.{PlacedToken, PlacedEntry, Span, Ending, after_line, at_parenthesis, at_stop, is_misplaced, after_token, ending_fault}
-use Rattle.std.specs.Prelude.{map}
 use Rattle.std.specs.List.{filter_map}
 unfoldable use Rattle.dns_spec.specs.EntryPlaces.{read_entry}
 use Rattle.dns_spec.specs.AllFaults.{HasFault, NumberIs, PlaceIs, GivesOwn}
 use Rattle.dns_spec.proofs.ZoneTexts.EntryReading.{tokens_of}
 use Rattle.dns_master.proofs.TextSteps.{blank-front, none-front}
-use Rattle.dns_master.specs.ScanForm.{words_read}
+use Rattle.dns_master.specs.PlaceForm.{words_read}
 use Rattle.dns_master.specs.JudgeForm.{Blamed, BlamedWord, KindOwn}
 use Rattle.dns_spec.specs.Meaning.{Nothing}
 use Rattle.dns_spec.specs.FileFaults.{fault_code}
 use Rattle.dns_spec.specs.ZoneText.{EntryStop, text_over, in_string, in_token, token_fault, string_fault, unless_cut_short, is_cut_short, begins_line_end, begins_with}
 use Rattle.dns_master.proofs.Common.{whole_text, beginning}
-use Rattle.dns_spec.specs.EntryPlaces.{before_end, empty_place, end_octets, fault_place}
-use Rattle.dns_spec.specs.AllFaults.{first_place, place_after, FaultyWord}
-use Rattle.dns_master.proofs.Common.{none-some, same_Some, false≢true, fault_of, ReadCode, Extent, stop_at, stop_fault, nat_le, ◌==◌, ◌||◌, drop}
+use Rattle.dns_spec.specs.EntryPlaces.{end_octets, fault_place}
+use Rattle.dns_spec.specs.AllFaults.{place_after, FaultyWord}
+use Rattle.dns_master.proofs.Common.{none-some, same_Some, false≢true, fault_of, ReadCode, Extent, stop_at, stop_fault, nat_le, ◌==◌, ◌||◌}
 use Rattle.dns_master.specs.EarlierForm.{OriginAfter}
-use Rattle.dns_master.specs.ScanForm.{shown_place, shown_ending}
-use Rattle.std.proofs.lemmas.List.{drop-map}
-use Rattle.dns_master.proofs.Common.{drop_all, ◌≤◌}
-use Rattle.dns_master.specs.declared.scan.Span.{Span as CodePlace}
+use Rattle.dns_master.specs.PlaceForm.{shown_place}
+use Rattle.dns_master.specs.EntryFound.{shown_ending}
 use Rattle.dns_master.specs.declared.earlier.Blame.{Blame}
 use Rattle.dns_master.specs.declared.scanned.EntryFault.{EntryFault}
 use Rattle.dns_master.specs.declared.scanned.ScannedEntry.{ScannedEntry}
@@ -205,27 +202,11 @@ module _ (o : DomainName) (earlier : List Entry) (s : ScannedEntry) (h : EntrySc
   abbrev at : PlacedEntry
   at = placed s
 
-  ends-are : at.ends ≡ s.read.ends
-  ends-are =
-      let short = h.short in
-      let total : length s.octets.now - length s.rest.now + length s.rest.now
-      ≡ length s.octets.now = omega (arith, short) in
-      subst (λ n. before_end n (read_entry (length s.rest.now) false
-      (length s.octets.now - length s.rest.now) s.rest.now).0
-      (read_entry (length s.rest.now) false
-      (length s.octets.now - length s.rest.now) s.rest.now).1 ≡ s.read.ends) total
-      h.scanned.ends_are
-
-  spot-is : (i : ℕ) → first_place (drop i (map shown_place s.places.now))
-      (empty_place s.read.ends) ≡ place_after i at
-  spot-is i = ap₂ (λ ps n. first_place (drop i ps) (empty_place n))
-      (sym h.scanned.places_are) (sym ends-are)
-
   word-place : (i : ℕ) (place : Span) (fault : FileFault)
       → FaultyWord o earlier (kind_of at.entry) fault i
-      → place ≡ first_place (drop i (map shown_place s.places.now)) (empty_place s.read.ends)
+      → place ≡ place_after i at
       → (j : ℕ) × FaultyWord o earlier (kind_of at.entry) fault j × (place ≡ place_after j at)
-  word-place i place fault w is = (i, w, is ∙ spot-is i)
+  word-place i place fault w is = (i, w, is)
 
   pub place-is : (fault : FileFault) (i : ℕ) (place : Span)
       → BlamedWord o earlier (kind_of at.entry) fault i
@@ -358,7 +339,7 @@ module _ (s : ScannedEntry) (h : EntryScanned s) where
   ending-is : ending_fault (extent_by (nat_lt 0 (length s.past.now)))
       (read_entry (length s.rest.now) false (length s.octets.now - length s.rest.now)
       s.rest.now).1 ≡ fault-is
-  ending-is = ap (ending_fault (extent_by (nat_lt 0 (length s.past.now)))) h.scanned.ending_is
+  ending-is = ap (ending_fault (extent_by (nat_lt 0 (length s.past.now)))) h.ending_is
 
   module _ (o : DomainName) (earlier : List Entry) where
     -- an entry with a lexical fault
@@ -371,11 +352,11 @@ module _ (s : ScannedEntry) (h : EntryScanned s) where
         let lexical = ending-lexical (extent_by (nat_lt 0 (length s.past.now)))
         (shown_ending s.read.ending) (fault_of code) is in
         let there = r ∙ ap (fault_place (length s.octets.now) s.past.now (fault_of code))
-        (ap end_octets (sym h.scanned.ending_is)) in
+        (ap end_octets (sym h.ending_is)) in
         record {
           given = subst (λ c. EntryGives o earlier (placed s).entry (faulty (fault_of c))) (sym p)
               (lexical-given (length s.octets.now) s.past.now s.rest.now s.words.now
-              h.scanned.words_are o earlier (fault_of code) (ending-is ∙ is));
+              h.words_are o earlier (fault_of code) (ending-is ∙ is));
           number = subst (λ c. NumberIs o earlier (kind_of (placed s).entry) (fault_of c) f.number)
               (sym p) (subst (λ n. NumberIs o earlier (kind_of (placed s).entry) (fault_of code) n)
               (sym q) (stop-number o earlier (placed s) (shown_place f.place) (fault_of code)
@@ -389,7 +370,7 @@ module _ (s : ScannedEntry) (h : EntryScanned s) where
     module _ (blank : Bool) (led : blank ≡ list_any is_blank (take 1 s.rest.now))
         (none : fault-is ≡ None) where
       abbrev kind : kind_of (placed s).entry ≡ kind_by_words blank s.words.now
-      kind = kind-is (length s.octets.now) s.past.now s.rest.now s.words.now h.scanned.words_are
+      kind = kind-is (length s.octets.now) s.past.now s.rest.now s.words.now h.words_are
           blank led
 
       -- an entry with another fault
@@ -406,7 +387,7 @@ module _ (s : ScannedEntry) (h : EntryScanned s) where
           record {
             given = subst (λ c. EntryGives o earlier (placed s).entry (faulty (fault_of c)))
                 (sym p) (kind-given (length s.octets.now) s.past.now s.rest.now s.words.now
-                h.scanned.words_are o earlier blank (faulty (fault_of b.code)) led
+                h.words_are o earlier blank (faulty (fault_of b.code)) led
                 (ending-is ∙ none) blamed.given);
             number = subst
                 (λ c. NumberIs o earlier (kind_of (placed s).entry) (fault_of c) f.number) (sym p)
@@ -424,28 +405,13 @@ module _ (s : ScannedEntry) (h : EntryScanned s) where
       entry-own rs own =
           record {
             given = own-given (length s.octets.now) s.past.now s.rest.now s.words.now
-                h.scanned.words_are o earlier blank rs led (ending-is ∙ none) own;
+                h.words_are o earlier blank rs led (ending-is ∙ none) own;
             origin = subst (λ x. Nothing (OriginAfter o earlier x) → ⊥) (sym kind) own.origin;
           }
-
--- the place of the word after n words
-pub past_spot : (spots : List CodePlace) (n : ℕ) (otherwise : Span) → length spots ≤ n
-    → otherwise ≡ first_place (drop n (map shown_place spots)) otherwise
-past_spot spots n otherwise few =
-    sym (ap (λ ps. first_place ps otherwise)
-    (drop-map shown_place n spots ∙ ap (map shown_place) (drop_all n spots few)))
-
-pub spot_at : (spots later : List CodePlace) (n : ℕ) (otherwise : Span)
-    → later ≡ drop n spots
-    → first_place (map shown_place later) otherwise
-    ≡ first_place (drop n (map shown_place spots)) otherwise
-spot_at spots later n otherwise is =
-    ap (λ ps. first_place (map shown_place ps) otherwise) is
-    ∙ ap (λ ps. first_place ps otherwise) (sym (drop-map shown_place n spots))
 
 -- the kind of an entry that was read
 pub entry-kind : (s : ScannedEntry) (h : EntryScanned s) (blank : Bool)
     → blank ≡ list_any is_blank (take 1 s.rest.now)
     → kind_of (placed s).entry ≡ kind_by_words blank s.words.now
 entry-kind s h blank led =
-    kind-is (length s.octets.now) s.past.now s.rest.now s.words.now h.scanned.words_are blank led
+    kind-is (length s.octets.now) s.past.now s.rest.now s.words.now h.words_are blank led

@@ -1,6 +1,7 @@
 -- What a prefix of a text decides holds however the text goes on.
-use Rattle.dns_master.proofs.Common.{◌≡◌, ℕ, ◌-◌, ◌≤◌, ◌⊎◌, inl, inr, Option, None, Some, Bool, true, false, AllGive, Knows, KindGives, EntryKind, kind_of, gives, List, [], ◌∷◌, ◌++◌, length, length-append, append-nil, append_assoc, refl, sym, ap, ◌∙◌, subst, arith, Octets, DomainName, FileFault, too_long, unwrap_or, false≢true, ResourceRecord, Meaning, records, fault_at, after, EntriesMean, Word, Token, Entry, extent_by, with_end, cut_entries, beginning, stop_at, stop_fault, beginning_decides, tokens_cut, TextMeans, EntryRead, IsWhole, Reads, outcome_of, unended, ReaderMeans, MayFollow, FrontTaken, FrontFaulty, FrontAdded, TextAdded, PieceTaken, AppendsPiece, Reader}
+use Rattle.dns_master.proofs.Common.{◌≡◌, ℕ, ◌-◌, ◌≤◌, ◌⊎◌, inl, inr, Option, None, Some, Bool, true, false, AllGive, Knows, KindGives, EntryKind, kind_of, gives, List, [], ◌∷◌, ◌++◌, length, length-append, append-nil, append_assoc, refl, sym, ap, ◌∙◌, subst, arith, Octets, DomainName, FileFault, too_long, unwrap_or, false≢true, ResourceRecord, Meaning, records, fault_at, after, EntriesMean, Word, Token, Entry, extent_by, with_end, cut_entries, beginning, stop_at, stop_fault, beginning_decides, tokens_cut, TextMeans, EntryRead, IsWhole, Reads, ending_of, ReaderMeans, MayFollow, FrontTaken, FrontFaulty, FrontAdded, TextAdded, PieceTaken, AppendsPiece, Reader}
 use Rattle.dns_spec.specs.AllFaults.{LookBack}
+use Rattle.dns_spec.specs.EntryPlaces.{at_stop}
 use Rattle.dns_spec.proofs.ZoneTexts.SomeMeaning.{Known, known_more, nothing_known, sort_sure}
 use Rattle.dns_master.specs.EarlierForm.{LooksBack, Passed}
 use Rattle.dns_master.specs.JudgeForm.{KindOwn}
@@ -58,8 +59,8 @@ taken-known o earlier e rs new sound own p =
 module _ (goes_on : Option Bool)
     (more : Octets) (past : Bool) (text rest : Octets) (words : List Word) (lines : ℕ) where
   pub whole-on : (is_ended is_open : Bool) (ps : List Token) → MayFollow goes_on more past → IsWhole
-      goes_on is_ended is_open rest → Reads false text ps (outcome_of is_ended is_open rest)
-      → Reads false (text ++ more) ps (outcome_of is_ended is_open (rest ++ more))
+      goes_on is_ended is_open rest → Reads false text ps (ending_of is_ended is_open rest)
+      → Reads false (text ++ more) ps (ending_of is_ended is_open (rest ++ more))
       × ((is_ended ≡ true) ⊎ (stop_fault (extent_by past) is_open (stop_at (rest ++ more)) ≡ None))
   whole-on true is_open ps may whole reads = (reads-more more false text ps rest reads, inl refl)
   whole-on false is_open ps may (inl e) reads = absurd (false≢true e)
@@ -67,18 +68,18 @@ module _ (goes_on : Option Bool)
     where
       known-on : (goes_on' : Option Bool) → MayFollow goes_on' more past
           → stop_fault (extent_by (unwrap_or goes_on' true)) is_open (stop_at rest) ≡ None
-          → Reads false (text ++ more) ps (unended is_open (rest ++ more))
+          → Reads false (text ++ more) ps (at_stop is_open (rest ++ more))
           × ((false ≡ true) ⊎ (stop_fault (extent_by past) is_open (stop_at (rest ++ more)) ≡ None))
       known-on None may e = absurd (false≢true (sym (over-at_end true is_open rest e).1))
       known-on (Some known) may e = (
-        subst (λ x. Reads false (text ++ x) ps (unended is_open (rest ++ x)))
+        subst (λ x. Reads false (text ++ x) ps (at_stop is_open (rest ++ x)))
             (sym may.0) (rw (append-nil text) (rw (append-nil rest) reads)),
         inr (rw may.0 (rw (append-nil rest) (rw may.1 e))),
       )
 
   abbrev pub entry-on : (is_ended is_open : Bool) → MayFollow goes_on more past → IsWhole goes_on
-      is_ended is_open rest → (read : EntryRead text words lines (outcome_of is_ended is_open rest))
-      → (read' : EntryRead (text ++ more) words lines (outcome_of is_ended is_open (rest ++ more)))
+      is_ended is_open rest → (read : EntryRead text words lines (ending_of is_ended is_open rest))
+      → (read' : EntryRead (text ++ more) words lines (ending_of is_ended is_open (rest ++ more)))
       × ((is_ended ≡ true) ⊎ (stop_fault (extent_by past) is_open (stop_at (rest ++ more)) ≡ None))
   entry-on is_ended is_open may whole read =
       let on = whole-on is_ended is_open read.tokens may whole read.reads in (

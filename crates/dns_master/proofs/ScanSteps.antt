@@ -1,17 +1,13 @@
 -- Reading an entry token by token, as the definitions read it.
-use Rattle.dns_master.proofs.Common.{◌≡◌, ℕ, zero, suc, ◌+◌, ◌-◌, ◌≤◌, Bool, true, false, if◌then◌else◌, ◌&&◌, not, List, [], ◌∷◌, ◌++◌, length, refl, sym, ap, ap₂, ◌∙◌, arith, Option, Some, None, append_assoc, append-nil, Octets, Word, Token, token_front, is_line_end, open_after, word_of, cons_option, misplaced, over, onward, step, token_words, front-shorter}
+use Rattle.dns_master.proofs.Common.{◌≡◌, ℕ, zero, suc, ◌+◌, ◌-◌, ◌≤◌, Bool, true, false, if◌then◌else◌, ◌&&◌, not, List, [], ◌∷◌, length, drop, refl, sym, ap, ap₂, ◌∙◌, subst, arith, Option, Some, None, Octets, Word, Token, token_front, is_line_end, open_after, word_of, cons_option, misplaced, over, onward, step, token_words, line_ends, front-shorter, Reads}
 use mathlib.Core.Bool.{xor}
 use Rattle.std.specs.List.{filter_map}
-use Rattle.std.specs.Prelude.{map}
 use Rattle.std.specs.Option.{is_some}
-use Rattle.std.proofs.lemmas.List.{map-append}
 use Rattle.dns_spec.specs.ZoneText.{stop_at}
-use Rattle.dns_spec.specs.EntryPlaces.{PlacedToken, Ending, after_line, at_parenthesis, at_stop, is_misplaced, after_token, word_place, before_last, before_end, stop_octets, end_octets}
+use Rattle.dns_spec.specs.EntryPlaces.{PlacedToken, Ending, Span, after_line, at_parenthesis, at_stop, is_misplaced, after_token, word_place, empty_place, before_end, stop_octets}
+use Rattle.dns_spec.specs.AllFaults.{first_place}
 unfoldable use Rattle.dns_spec.specs.EntryPlaces.{read_entry}
-use Rattle.dns_spec.proofs.Common.{filter_map-append}
-use Rattle.dns_master.specs.ScanForm.{words_read, shown_place, shown_ending, ScansEntry}
-use Rattle.dns_master.specs.declared.scan.Span.{Span}
-use Rattle.dns_master.specs.declared.scan.EntryScan.{EntryScan}
+use Rattle.dns_master.specs.PlaceForm.{words_read}
 use Rattle.dns_master.specs.EntryForm.{Step}
 
 step_code : Step → ℕ
@@ -77,205 +73,208 @@ unfolding read_entry
 stops zero b before text e = refl
 stops (suc k) b before text e = rw (e, read_entry) refl
 
--- the number of octets before the last token
-before_last-append : (ps : List PlacedToken) (p : PlacedToken)
-    → before_last (ps ++ p ∷ []) ≡ p.place.begins
-before_last-append [] p = refl
-before_last-append (q ∷ []) p = refl
-before_last-append (q ∷ r ∷ ps) p = before_last-append (r ∷ ps) p
+no-word : (b : Bool) (p : Token) → step b p ≡ misplaced → word_of p ≡ None
+unfolding step_code
+no-word b p e = grind (arith, (ap step_code e))
 
--- the place of a token of a text, which `before` octets precede
-abbrev pub token_at : ℕ → Octets → Octets → Octets → Token → PlacedToken
-token_at before text rest others p =
-    record {
-      token = p;
-      place = record {
-        begins = before + (length text - length rest);
-        ends = before + (length text - length others);
-      };
-    }
+last-no-word : (b : Bool) (p : Token) → step b p ≡ over → word_of p ≡ None
+unfolding step_code
+last-no-word b p e = grind (arith, (ap step_code e))
 
--- the tokens so far, and that reading goes on after them
-pub record ReadSoFar (text : Octets) (before : ℕ) (b : Bool) (rest : Octets)
-    (words : List Word) (spots : List Span) : Type 0 where
-  pub left : ℕ
-  pub enough : length rest ≤ left
-  pub short : length rest ≤ length text
-  pub tokens : List PlacedToken
-  pub read : read_entry (length text) false before text
-      ≡ (
-        tokens ++ (read_entry left b (before + (length text - length rest)) rest).0,
-        (read_entry left b (before + (length text - length rest)) rest).1,
-      )
-  pub words_are : words ≡ words_read tokens
-  pub places_are : map shown_place spots ≡ filter_map word_place tokens
+-- a misplaced parenthesis ends no line
+pub wrong-lines : (b : Bool) (p : Token) → step b p ≡ misplaced → line_ends (p ∷ []) ≡ 0
+unfolding step_code
+wrong-lines b p e = grind (arith, (ap step_code e))
 
-module _ (text : Octets) (before : ℕ) (b : Bool) (rest : Octets) (words : List Word)
-    (spots : List Span) (so : ReadSoFar text before b rest words spots) where
-  abbrev here : ℕ
-  here = before + (length text - length rest)
+-- the code's reading has the words and the ending of the definition's
+abbrev pub Found : (k : ℕ) (b : Bool) (before : ℕ) (text : Octets) (ps : List Token)
+    (ending : Ending) → Type 0
+Found k b before text ps ending =
+    (words_read (read_entry k b before text).0 ≡ token_words ps)
+    × ((read_entry k b before text).1 ≡ ending)
 
-  -- reading ends after the tokens so far
-  ends_here : (ending : Ending) (scan : EntryScan)
-      → read_entry so.left b here rest ≡ ([], ending) → shown_ending scan.ending ≡ ending
-      → before_end (before + length text) so.tokens ending ≡ scan.ends
-      → length (end_octets ending) ≤ length text → ScansEntry before text words spots scan
-  ends_here ending scan stops is ends few =
-      let same = ap (λ x. length (end_octets x)) is in
-      let read = so.read ∙ ap (λ r. (so.tokens ++ r.0, r.1)) stops in
-      let whole = read ∙ ap (λ ts. (ts, ending)) (append-nil so.tokens) in
-      record {
-        words_are = ap (λ r. words_read r.0) whole ∙ sym so.words_are;
-        places_are = ap (λ r. filter_map word_place r.0) whole ∙ sym so.places_are;
-        ends_are = ap (λ r. before_end (before + length text) r.0 r.1) whole ∙ ends;
-        ending_is = ap (λ r. r.1) whole ∙ sym is;
-        short = omega (arith, same, few);
+pub reads-found : (k : ℕ) (b : Bool) (before : ℕ) (text : Octets) (ps : List Token)
+    (ending : Ending) → length text ≤ k → Reads b text ps ending → Found k b before text ps ending
+reads-found k b before text [] ending few (none, is) =
+    rw (stops k b before text none) (refl, sym is)
+reads-found zero b before text (p ∷ ps) ending few (others, front, tail) =
+    absurd (omega (arith, front-shorter text p others front, few))
+reads-found (suc k) b before text (p ∷ ps) ending few (others, front, tail) =
+    let less = front-shorter text p others front in
+    go (step b p) refl tail
+    (λ now n. reads-found k now n others ps ending (omega (arith, less, few)))
+  where
+    go : (s : Step) → step b p ≡ s → elim s as (λ _. Type 0) [
+      | misplaced ↦ (ps ≡ []) × (ending ≡ at_parenthesis text)
+      | over ↦ (ps ≡ []) × (ending ≡ after_line others)
+      | onward now ↦ Reads now others ps ending
+    ] → ((now : Bool) (n : ℕ) → Reads now others ps ending → Found k now n others ps ending)
+        → Found (suc k) b before text (p ∷ ps) ending
+    go misplaced e h later =
+        rw (stops_wrong k b before text others p front (wrong b p e)) (
+          ap (λ o. cons_option o []) (sym (no-word b p e))
+              ∙ ap (λ qs. cons_option (word_of p) (token_words qs)) (sym h.0),
+          sym h.1,
+        )
+    go over e h later =
+        rw (ends_line k b before text others p front (last b p e))
+        (ap (λ qs. cons_option (word_of p) (token_words qs)) (sym h.0), sym h.1)
+    go (onward now) e h later =
+        let rest = later now (before + (length text - length others)) h in
+        rw (goes_on k b before text others p front now (goes b p now e))
+        (ap (cons_option (word_of p)) rest.0, rest.1)
+
+-- each word takes an octet of the text
+pub words-few : (b : Bool) (text : Octets) (ps : List Token) (ending : Ending)
+    → Reads b text ps ending → length (token_words ps) ≤ length text
+words-few b text [] ending h = omega arith
+words-few b text (p ∷ ps) ending (others, front, tail) =
+    go (step b p) tail (λ now. words-few now others ps ending)
+  where
+    less : length (cons_option (word_of p) (token_words ps)) ≤ 1 + length (token_words ps)
+    less = by_word (word_of p)
+      where
+        by_word : (o : Option Word) → length (cons_option o (token_words ps))
+            ≤ 1 + length (token_words ps)
+        by_word None = omega arith
+        by_word (Some w) = omega arith
+
+    go : (s : Step) → elim s as (λ _. Type 0) [
+      | misplaced ↦ (ps ≡ []) × (ending ≡ at_parenthesis text)
+      | over ↦ (ps ≡ []) × (ending ≡ after_line others)
+      | onward now ↦ Reads now others ps ending
+    ] → ((now : Bool) → Reads now others ps ending → length (token_words ps) ≤ length others)
+        → length (token_words (p ∷ ps)) ≤ length text
+    go misplaced h later =
+        let none = ap (λ qs. length (token_words qs)) h.0 in
+        omega (arith, less, none, front-shorter text p others front)
+    go over h later =
+        let none = ap (λ qs. length (token_words qs)) h.0 in
+        omega (arith, less, none, front-shorter text p others front)
+    go (onward now) h later =
+        omega (arith, less, later now h, front-shorter text p others front)
+
+-- if a token begins a text, at least one token is read
+pub one-more : (k : ℕ) (text others : Octets) (p : Token) → token_front text ≡ Some (p, others)
+    → length text ≤ k → (j : ℕ) × (k ≡ suc j)
+one-more zero text others p front few =
+    absurd (omega (arith, few, front-shorter text p others front))
+one-more (suc j) text others p front few = (j, refl)
+
+-- the place of the word after `left` of the words that were read, or the end of the entry
+abbrev pub spot : ℕ → ℕ → List PlacedToken × Ending → Span
+spot total left r =
+    first_place (drop left (filter_map word_place r.0)) (empty_place (before_end total r.0 r.1))
+
+-- a token before other tokens does not change where an entry ends
+ends-after : (total : ℕ) (q p : PlacedToken) (ps : List PlacedToken) (ending : Ending)
+    → before_end total (q ∷ p ∷ ps) ending ≡ before_end total (p ∷ ps) ending
+ends-after total q p ps (after_line rest) = refl
+ends-after total q p ps (at_parenthesis place) = refl
+ends-after total q p ps (at_stop b rest) = refl
+
+module _ (total : ℕ) where
+  same-end : (q : PlacedToken) (k : ℕ) (b : Bool) (before : ℕ) (text : Octets)
+      → before_end total (q ∷ (read_entry k b before text).0) (read_entry k b before text).1
+      ≡ before_end total (read_entry k b before text).0 (read_entry k b before text).1
+  unfolding read_entry
+  same-end q zero b before text = refl
+  same-end q (suc k) b before text = by_front (token_front text) refl
+    where
+      Same : List PlacedToken × Ending → Type 0
+      Same r = before_end total (q ∷ r.0) r.1 ≡ before_end total r.0 r.1
+
+      by_front : (front : Option (Token × Octets)) → token_front text ≡ front
+          → Same (read_entry (suc k) b before text)
+      by_front None e = subst Same (sym (stops (suc k) b before text e)) refl
+      by_front (Some (p, others)) e = by_step (step b p) refl
+        where
+          by_step : (s : Step) → step b p ≡ s → Same (read_entry (suc k) b before text)
+          by_step misplaced is =
+              subst Same (sym (stops_wrong k b before text others p e (wrong b p is))) refl
+          by_step over is =
+              subst Same (sym (ends_line k b before text others p e (last b p is))) refl
+          by_step (onward now) is =
+              subst Same (sym (goes_on k b before text others p e now (goes b p now is)))
+              (ends-after total q (placed k b before text others p e)
+              (read_entry k now (passed k b before text others p e) others).0
+              (read_entry k now (passed k b before text others p e) others).1)
+
+  -- no token begins the text
+  pub spot-stopped : (left k : ℕ) (b : Bool) (before : ℕ) (text : Octets) → token_front text ≡ None
+      → spot total left (read_entry k b before text)
+      ≡ empty_place (total - length (stop_octets (stop_at text)))
+  spot-stopped zero k b before text e = rw (stops k b before text e) refl
+  spot-stopped (suc left) k b before text e = rw (stops k b before text e) refl
+
+  module _ (k : ℕ) (b : Bool) (text others : Octets) (p : Token)
+      (front : token_front text ≡ Some (p, others)) (short : length text ≤ total) where
+    abbrev here : List PlacedToken × Ending
+    here = read_entry (suc k) b (total - length text) text
+
+    passed-is : total - length text + (length text - length others) ≡ total - length others
+    passed-is = omega (arith, short, front-shorter text p others front)
+
+    pub spot-wrong : (left : ℕ) → step b p ≡ misplaced
+        → spot total left here ≡ empty_place (total - length text)
+    spot-wrong zero e =
+        rw (stops_wrong k b (total - length text) text others p front (wrong b p e)) refl
+    spot-wrong (suc left) e =
+        rw (stops_wrong k b (total - length text) text others p front (wrong b p e)) refl
+
+    pub spot-ended : (left : ℕ) → step b p ≡ over
+        → spot total left here ≡ empty_place (total - length text)
+    spot-ended zero e =
+        rw (ends_line k b (total - length text) text others p front (last b p e))
+        (rw (last-no-word b p e) refl)
+    spot-ended (suc left) e =
+        rw (ends_line k b (total - length text) text others p front (last b p e))
+        (rw (last-no-word b p e) refl)
+
+    module _ (now : Bool) (e : step b p ≡ onward now) where
+      abbrev later : List PlacedToken × Ending
+      later = read_entry k now (total - length others) others
+
+      abbrev one : PlacedToken
+      one = record {
+        token = p;
+        place = record { begins = total - length text; ends = total - length others };
       }
 
-  -- no token begins the rest
-  pub scan-stopped : token_front rest ≡ None → (scan : EntryScan)
-      → shown_ending scan.ending ≡ at_stop b rest
-      → length (stop_octets (stop_at rest)) ≤ length rest
-      → scan.ends ≡ before + (length text - length (stop_octets (stop_at rest)))
-      → ScansEntry before text words spots scan
-  scan-stopped e scan is few ends =
-      let short = so.short in
-      ends_here (at_stop b rest) scan (stops so.left b here rest e) is
-      (omega (arith, few, short, ends)) (omega (arith, few, short))
+      here-is : here ≡ after_token one later
+      here-is = goes_on k b (total - length text) text others p front now (goes b p now e)
+          ∙ ap (λ n. after_token (record {
+            token = p;
+            place = record { begins = total - length text; ends = n };
+          }) (read_entry k now n others)) passed-is
 
-  module _ (p : Token) (others : Octets) (front : token_front rest ≡ Some (p, others)) where
-    some_left : (k : ℕ) → length rest ≤ k → (j : ℕ) × (k ≡ suc j)
-    some_left zero few = let less = front-shorter rest p others front in
-        absurd (omega (arith, less, few))
-    some_left (suc j) few = (j, refl)
+      ends-on : before_end total here.0 here.1 ≡ before_end total later.0 later.1
+      ends-on = ap (λ r. before_end total r.0 r.1) here-is
+          ∙ same-end one k now (total - length others) others
 
-    pub scan-wrong : step b p ≡ misplaced → (scan : EntryScan)
-        → shown_ending scan.ending ≡ at_parenthesis rest → scan.ends ≡ here
-        → ScansEntry before text words spots scan
-    scan-wrong e scan is ends =
-        let j = some_left so.left so.enough in
-        let short = so.short in
-        ends_here (at_parenthesis rest) scan
-        (ap (λ k. read_entry k b here rest) j.1
-        ∙ stops_wrong j.0 b here rest others p front (wrong b p e)) is
-        (omega (arith, short, ends)) (omega (arith, short))
+      places-are : filter_map word_place here.0
+          ≡ cons_option (word_place one) (filter_map word_place later.0)
+      places-are = ap (λ r. filter_map word_place r.0) here-is
 
-    abbrev one : PlacedToken
-    one = token_at before text rest others p
+      -- a token that is not a word
+      pub spot-other : (left : ℕ) → is_some (word_of p) ≡ false
+          → spot total left here ≡ spot total left later
+      spot-other left none =
+          ap₂ (λ ps n. first_place (drop left ps) (empty_place n))
+          (places-are ∙ ap (λ b. cons_option (if b then Some one.place else None)
+          (filter_map word_place later.0)) none) ends-on
 
-    -- the place of the token, by its octets
-    one_is : (k : ℕ) → placed k b here rest others p front ≡ one
-    one_is k =
-        let less = front-shorter rest p others front in
-        let short = so.short in
-        let there : here + (length rest - length others)
-        ≡ before + (length text - length others) = omega (arith, less, short) in
-        ap (λ n. record { token = p; place = record { begins = here; ends = n } }) there
+      module _ (is : is_some (word_of p) ≡ true) where
+        word-first : filter_map word_place here.0 ≡ one.place ∷ filter_map word_place later.0
+        word-first = places-are ∙ ap (λ b. cons_option (if b then Some one.place else None)
+            (filter_map word_place later.0)) is
 
-    words_and : (words' : List Word) → words' ≡ words ++ token_words (p ∷ [])
-        → words' ≡ words_read (so.tokens ++ one ∷ [])
-    words_and words' is =
-        is ∙ ap₂ (λ x y. x ++ y) so.words_are refl
-        ∙ sym (filter_map-append (λ (q : PlacedToken). word_of q.token) so.tokens (one ∷ []))
+        -- the word that is sought
+        pub spot-word : spot total 0 here ≡ one.place
+        spot-word = ap (λ ps. first_place ps (empty_place (before_end total here.0 here.1)))
+            word-first
 
-    -- the places with that of one more token
-    abbrev OneMore : List Span → Type 0
-    OneMore spots' = map shown_place spots'
-        ≡ map shown_place spots ++ filter_map word_place (one ∷ [])
-
-    places_and : (spots' : List Span) → OneMore spots'
-        → map shown_place spots' ≡ filter_map word_place (so.tokens ++ one ∷ [])
-    places_and spots' is =
-        is ∙ ap₂ (λ x y. x ++ y) so.places_are refl
-        ∙ sym (filter_map-append word_place so.tokens (one ∷ []))
-
-    pub scan-ended : step b p ≡ over → words ≡ words ++ token_words (p ∷ []) → OneMore spots
-        → (scan : EntryScan) → shown_ending scan.ending ≡ after_line others → scan.ends ≡ here
-        → ScansEntry before text words spots scan
-    scan-ended e more spots_more scan is ends =
-        let j = some_left so.left so.enough in
-        let same = ap (λ x. length (end_octets x)) is in
-        let less = front-shorter rest p others front in
-        let short = so.short in
-        let stops = ap (λ k. read_entry k b here rest) j.1
-        ∙ ends_line j.0 b here rest others p front (last b p e) in
-        let read = so.read ∙ ap (λ r. (so.tokens ++ r.0, r.1)) stops
-        ∙ ap (λ q. (so.tokens ++ q ∷ [], after_line others)) (one_is j.0) in
-        record {
-          words_are = ap (λ r. words_read r.0) read ∙ sym (words_and words more);
-          places_are = ap (λ r. filter_map word_place r.0) read
-              ∙ sym (places_and spots spots_more);
-          ends_are = ap (λ r. before_end (before + length text) r.0 r.1) read
-              ∙ before_last-append so.tokens one ∙ sym ends;
-          ending_is = ap (λ r. r.1) read ∙ sym is;
-          short = omega (arith, same, less, short);
-        }
-
-    pub scan-on : (now : Bool) → step b p ≡ onward now → (words' : List Word)
-        → words' ≡ words ++ token_words (p ∷ []) → (spots' : List Span) → OneMore spots'
-        → ReadSoFar text before now others words' spots'
-    scan-on now e words' is spots' spots_are =
-        let j = some_left so.left so.enough in
-        let less = front-shorter rest p others front in
-        let short = so.short in
-        let there : here + (length rest - length others)
-        ≡ before + (length text - length others) = omega (arith, less, short) in
-        let later = read_entry j.0 now (before + (length text - length others)) others in
-        let stops : read_entry so.left b here rest ≡ after_token one later =
-        ap (λ k. read_entry k b here rest) j.1
-        ∙ goes_on j.0 b here rest others p front now (goes b p now e)
-        ∙ ap₂ (λ q n. after_token q (read_entry j.0 now n others)) (one_is j.0) there in
-        record {
-          left = j.0;
-          enough = omega (arith, less, so.enough, j.1);
-          short = omega (arith, less, short);
-          tokens = so.tokens ++ one ∷ [];
-          read = so.read ∙ ap (λ r. (so.tokens ++ r.0, r.1)) stops
-              ∙ ap (λ ts. (ts, later.1)) (sym (append_assoc so.tokens (one ∷ []) later.0));
-          words_are = words_and words' is;
-          places_are = places_and spots' spots_are;
-        }
-
-over-none : (b : Bool) (p : Token) → step b p ≡ over → word_of p ≡ None
-unfolding step_code
-over-none b p e = grind (arith, (ap step_code e))
-
--- a token that is no word adds no place
-pub no_place : (before : ℕ) (text rest others : Octets) (p : Token) (spots : List Span)
-    → word_of p ≡ None → map shown_place spots
-    ≡ map shown_place spots ++ filter_map word_place (token_at before text rest others p ∷ [])
-no_place before text rest others p spots e = rw e (sym (append-nil (map shown_place spots)))
-
-pub one_place : (before : ℕ) (text rest others : Octets) (p : Token) (w : Word)
-    (spots spots' : List Span) (place : Span) → word_of p ≡ Some w
-    → spots' ≡ spots ++ place ∷ []
-    → shown_place place ≡ (token_at before text rest others p).place
-    → map shown_place spots'
-    ≡ map shown_place spots ++ filter_map word_place (token_at before text rest others p ∷ [])
-one_place before text rest others p w spots spots' place e grown is =
-    ap (map shown_place) grown ∙ map-append shown_place spots (place ∷ [])
-    ∙ ap (λ x. map shown_place spots ++ x ∷ []) is ∙ by_word (word_of p) e
-  where
-    by_word : (v : Option Word) → v ≡ Some w
-        → map shown_place spots ++ (token_at before text rest others p).place ∷ []
-        ≡ map shown_place spots ++ cons_option (if is_some v then
-        Some (token_at before text rest others p).place else None) []
-    by_word v e = rw e refl
-
-pub no_place_over : (b : Bool) (before : ℕ) (text rest others : Octets) (p : Token)
-    (spots : List Span) → step b p ≡ over → map shown_place spots
-    ≡ map shown_place spots ++ filter_map word_place (token_at before text rest others p ∷ [])
-no_place_over b before text rest others p spots e =
-    no_place before text rest others p spots (over-none b p e)
-
--- the words so far, by the word of a token
-pub no_word : (p : Token) (ws : List Word) → word_of p ≡ None → ws ≡ ws ++ token_words (p ∷ [])
-no_word p ws e = rw e (sym (append-nil ws))
-
-pub one_word : (p : Token) (w : Word) (ws : List Word) → word_of p ≡ Some w
-    → ws ++ w ∷ [] ≡ ws ++ token_words (p ∷ [])
-one_word p w ws e = rw e refl
-
-pub no_word_over : (b : Bool) (p : Token) (ws : List Word) → step b p ≡ over
-    → ws ≡ ws ++ token_words (p ∷ [])
-no_word_over b p ws e = no_word p ws (over-none b p e)
+        -- a word before the one that is sought
+        pub spot-passed : (left : ℕ) → spot total (suc left) here ≡ spot total left later
+        spot-passed left = ap₂ (λ ps n. first_place (drop (suc left) ps) (empty_place n))
+            word-first ends-on

@@ -1,7 +1,9 @@
 -- The meaning of a text from the start of an entry: what the entry gives, followed by what the rest
 -- of the text means.
-use Rattle.dns_master.proofs.Common.{◌≡◌, ℕ, ◌+◌, ◌≤◌, ◌<◌, Bool, true, false, ◌||◌, ◌==◌, List, [], ◌∷◌, ◌++◌, length, take, inl, inr, ◌⊎◌, refl, sym, ap, ◌∙◌, subst, arith, Option, Some, None, false≢true, none-some, if◌then◌else◌, MatchOption, list_any, Octets, DomainName, Word, ResourceRecord, bad_parenthesis, too_long, FileFault, EntryMeaning, faulty, gives, Meaning, records, fault_at, after, line_after, KindGives, kind_of, kind_by_words, EntryGives, EntriesMean, Token, quoted_string, line_end, Entry, ended, token_front, TokensThen, is_blank, is_blank_token, begins_blank, closed, line_feed_front, cut_entries, with_end, is_open_at_end, take_turns, parentheses, whole_text, extent_by, stop_fault, stop_at, Extent, beginning, in_string, in_token, has_tokens, front-shorter, Reads, unended, IsWrong, line_ends, EntryRead, outcome_of, TextMeans}
-use Rattle.dns_master.specs.EntryForm as form
+use Rattle.dns_master.proofs.Common.{◌≡◌, ℕ, ◌+◌, ◌≤◌, ◌<◌, Bool, true, false, ◌||◌, ◌==◌, List, [], ◌∷◌, ◌++◌, length, take, inl, inr, ◌⊎◌, refl, sym, ap, ◌∙◌, subst, arith, Option, Some, None, false≢true, none-some, if◌then◌else◌, MatchOption, list_any, Octets, DomainName, Word, ResourceRecord, bad_parenthesis, too_long, FileFault, EntryMeaning, faulty, gives, Meaning, records, fault_at, after, line_after, KindGives, kind_of, kind_by_words, EntryGives, EntriesMean, Token, quoted_string, line_end, Entry, ended, token_front, TokensThen, is_blank, is_blank_token, begins_blank, closed, line_feed_front, cut_entries, with_end, is_open_at_end, take_turns, parentheses, whole_text, extent_by, stop_fault, stop_at, Extent, beginning, in_string, in_token, has_tokens, front-shorter, Reads, line_ends, EntryRead, ending_of, TextMeans}
+use Rattle.dns_spec.specs.EntryPlaces.{Ending, after_line, at_parenthesis, at_stop, ending_fault}
+use Rattle.dns_master.proofs.Common.{same_Some}
+use Rattle.dns_master.specs.EntryForm.{rest_in}
 use Rattle.dns_master.proofs.EntryLoop.{lines-append}
 use Rattle.dns_master.proofs.EntryCuts.{EndedCut, HasFirst, has_first, reads-ended, reads-unended, reads-wrong}
 use Rattle.dns_spec.proofs.ZoneTexts.TextTokens.{tokens_then}
@@ -29,7 +31,7 @@ with_end-more goes_on rest ps es h = grind (arith, with_end, extent_by, ended)
 module _ (o : DomainName) (earlier : List Entry) (goes_on : Bool) (text : Octets) where
   -- an entry that a line end ends
   module _
-      (ps : List Token) (others : Octets) (reads : Reads false text ps (form.ended others)) where
+      (ps : List Token) (others : Octets) (reads : Reads false text ps (after_line others)) where
     cut_after : (rest : Octets) (qs : List Token) → with_end (extent_by goes_on) rest (cut_entries
         false (ps ++ qs)) ≡ ended ps ∷ with_end (extent_by goes_on) rest (cut_entries false qs)
     cut_after rest qs =
@@ -70,7 +72,7 @@ module _ (o : DomainName) (earlier : List Entry) (goes_on : Bool) (text : Octets
 
   -- an entry up to the place at which no token begins
   module _ (ps : List Token)
-      (is_open : Bool) (rest : Octets) (reads : Reads false text ps (unended is_open rest)) where
+      (is_open : Bool) (rest : Octets) (reads : Reads false text ps (at_stop is_open rest)) where
     last_entry : Entry
     last_entry = record {
       tokens = ps;
@@ -112,10 +114,11 @@ module _ (o : DomainName) (earlier : List Entry) (goes_on : Bool) (text : Octets
         grind (arith, last_means, after, by_sort, last_entry, reads-unended, same_end)
 
   -- a text whose first entry has a misplaced parenthesis has that fault
-  pub wrong-faulty : IsWrong text
+  pub wrong-faulty : (ps : List Token) (place : Octets)
+      → Reads false text ps (at_parenthesis place)
       → TextMeans o earlier goes_on text (fault_at bad_parenthesis (line_after earlier))
-  wrong-faulty (ps, reads) =
-      let c = reads-wrong false text ps reads in
+  wrong-faulty ps place reads =
+      let c = reads-wrong false text ps place reads in
       let h = has_tokens c.rest in
       let w = c.wrong_first h.tokens in
       record {
@@ -195,10 +198,10 @@ none-front (o ∷ text) e =
     any-one false = refl
 
 -- an entry begins with a blank if the text does
-pub begins-blank : (b : Bool) (text : Octets) (ps : List Token) (outcome : form.Outcome)
-    → Reads b text ps outcome → begins_blank ps ≡ list_any is_blank (take 1 text)
-begins-blank b text [] outcome h = sym (none-front text h.0)
-begins-blank b text (p ∷ ps) outcome h = blank-front text h.0 p h.1
+pub begins-blank : (b : Bool) (text : Octets) (ps : List Token) (ending : Ending)
+    → Reads b text ps ending → begins_blank ps ≡ list_any is_blank (take 1 text)
+begins-blank b text [] ending h = sym (none-front text h.0)
+begins-blank b text (p ∷ ps) ending h = blank-front text h.0 p h.1
 
 answer_records : EntryMeaning → List ResourceRecord
 answer_records (faulty code) = []
@@ -254,24 +257,24 @@ over-at_end true is_open [] e = absurd (none-some too_long (sym e))
 over-at_end false is_open [] e = (refl, refl)
 
 -- the kind of an entry, by its first octet and its words
-pub same_sort : (text : Octets) (words : List Word) (lines : ℕ) (outcome : form.Outcome)
-    (b : Bool) (read : EntryRead text words lines outcome) → b ≡ list_any is_blank (take 1 text)
+pub same_sort : (text : Octets) (words : List Word) (lines : ℕ) (ending : Ending)
+    (b : Bool) (read : EntryRead text words lines ending) → b ≡ list_any is_blank (take 1 text)
     → kind_of (ended read.tokens) ≡ kind_by_words b words
-same_sort text words lines outcome b read is = grind (arith, begins-blank)
+same_sort text words lines ending b read is = grind (arith, begins-blank)
 
 module _ (o : DomainName) (earlier : List Entry)
     (goes_on : Bool) (text rest : Octets) (words : List Word) (lines : ℕ) (is_ended is_open : Bool)
-    (read : EntryRead text words lines (outcome_of is_ended is_open rest)) where
+    (read : EntryRead text words lines (ending_of is_ended is_open rest)) where
   -- a text whose first entry ends without a fault means what this entry gives, followed by what the
   -- rest means
   pub entry-means : (is_ended ≡ true) ⊎ (stop_fault (extent_by goes_on) is_open (stop_at rest)
       ≡ None) → (rs : List ResourceRecord) → KindGives o earlier (kind_of (ended read.tokens))
       (gives rs) → (later : Meaning) → TextMeans o (ended read.tokens ∷ earlier) goes_on rest later
       → TextMeans o earlier goes_on text (after rs later)
-  entry-means (inl e) rs given later h = grind (arith, ended-gives, Reads, outcome_of)
+  entry-means (inl e) rs given later h = grind (arith, ended-gives, Reads, ending_of)
   entry-means (inr e) rs given later h = go is_ended read.reads
     where
-      go : (b : Bool) → Reads false text read.tokens (outcome_of b is_open rest)
+      go : (b : Bool) → Reads false text read.tokens (ending_of b is_open rest)
           → TextMeans o earlier goes_on text (after rs later)
       go true reads = ended-gives o earlier goes_on text read.tokens rest reads rs given later h
       go false reads =
@@ -286,23 +289,43 @@ module _ (o : DomainName) (earlier : List Entry)
   pub entry-faulty : (is_ended ≡ true) ⊎ (stop_fault (extent_by goes_on) is_open (stop_at rest)
       ≡ None) → (code : FileFault) → KindGives o earlier (kind_of (ended read.tokens)) (faulty code)
       → TextMeans o earlier goes_on text (fault_at code (line_after earlier))
-  entry-faulty (inl e) code given = grind (arith, ended-faulty, Reads, outcome_of)
+  entry-faulty (inl e) code given = grind (arith, ended-faulty, Reads, ending_of)
   entry-faulty (inr e) code given = go is_ended read.reads
     where
-      go : (b : Bool) → Reads false text read.tokens (outcome_of b is_open rest)
+      go : (b : Bool) → Reads false text read.tokens (ending_of b is_open rest)
           → TextMeans o earlier goes_on text (fault_at code (line_after earlier))
       go true reads = ended-faulty o earlier goes_on text read.tokens rest reads code given
       go false reads =
           unended-faulty o earlier goes_on text read.tokens is_open rest reads code e given
 
   -- if the first entry ends with a fault, the text has it
-  pub entry-ends_faulty : is_ended ≡ false
+  entry-ends_faulty : is_ended ≡ false
       → (code : FileFault) → stop_fault (extent_by goes_on) is_open (stop_at rest) ≡ Some code
       → TextMeans o earlier goes_on text (fault_at code (line_after earlier))
-  entry-ends_faulty e code is = grind (arith, unended-end, Reads, outcome_of)
+  entry-ends_faulty e code is = grind (arith, unended-end, Reads, ending_of)
 
   pub entry-line : line_after (ended read.tokens ∷ earlier) ≡ line_after earlier + lines
   entry-line = line-more read.tokens earlier ∙ ap (λ n. line_after earlier + n) (sym read.counted)
+
+-- if reading the first entry ends with a fault, the text has it
+pub ends-faulty : (o : DomainName) (earlier : List Entry) (goes_on : Bool) (text : Octets)
+    (words : List Word) (lines : ℕ) (ending : Ending) → EntryRead text words lines ending
+    → (fault : FileFault) → ending_fault (extent_by goes_on) ending ≡ Some fault
+    → TextMeans o earlier goes_on text (fault_at fault (line_after earlier))
+ends-faulty o earlier goes_on text words lines (after_line rest) read fault is =
+    absurd (none-some fault is)
+ends-faulty o earlier goes_on text words lines (at_parenthesis place) read fault is =
+    subst (λ f. TextMeans o earlier goes_on text (fault_at f (line_after earlier)))
+    (same_Some bad_parenthesis fault is)
+    (wrong-faulty o earlier goes_on text read.tokens place read.reads)
+ends-faulty o earlier goes_on text words lines (at_stop is_open rest) read fault is =
+    entry-ends_faulty o earlier goes_on text rest words lines false is_open read refl fault is
+
+-- the text at which the reading of a complete entry ends
+pub whole-rest : (is_ended is_open : Bool) (rest : Octets)
+    → rest_in (ending_of is_ended is_open rest) ≡ rest
+whole-rest true is_open rest = refl
+whole-rest false is_open rest = refl
 
 tokens-shorter : (text rest : Octets) (ps : List Token)
     → TokensThen text ps rest → length rest ≤ length text
@@ -322,7 +345,7 @@ some-shorter (o ∷ text) rest some e =
 -- an entry that ends without a fault leaves fewer octets
 pub entry-shorter : (goes_on : Bool)
     (text rest : Octets) (words : List Word) (lines : ℕ) (is_ended is_open : Bool) → (text ≡ [] → ⊥)
-    → EntryRead text words lines (outcome_of is_ended is_open rest) → (is_ended ≡ true)
+    → EntryRead text words lines (ending_of is_ended is_open rest) → (is_ended ≡ true)
     ⊎ (stop_fault (extent_by goes_on) is_open (stop_at rest) ≡ None) → length rest < length text
 entry-shorter goes_on text rest words lines true is_open some read h =
     ended-shorter text rest read.tokens (reads-ended false text read.tokens rest read.reads)

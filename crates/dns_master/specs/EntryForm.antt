@@ -6,6 +6,7 @@ use Rattle.std.specs.Option.{unwrap_or}
 use Rattle.dns_spec.specs.Names.{Octets, DomainName}
 use Rattle.dns_spec.specs.DataText.{Word}
 use Rattle.dns_spec.specs.ZoneText.{Token, blank, comment, word, quoted_string, opening, closing, line_end, Entry, token_front, TokensThen, cut_entries, with_end, is_line_end, word_of, extent_by, stop_at, stop_fault}
+use Rattle.dns_spec.specs.EntryPlaces.{Ending, after_line, at_parenthesis, at_stop}
 use Rattle.dns_spec.specs.Meaning.{Meaning, EntriesMean}
 
 -- What follows a token: nothing, because the token is a misplaced parenthesis or ends the entry; or
@@ -24,24 +25,16 @@ step is_open opening = if is_open then misplaced else onward true
 step is_open closing = if is_open then onward false else misplaced
 step is_open line_end = if is_open then onward true else over
 
--- How reading an entry ends: after its line end (`ended`, with the text after it); before a text
--- with which no token begins (`unended`, inside (true) or outside parentheses, with that text); or
--- at a misplaced parenthesis.
-pub data Outcome : Type 0 where
-  ended : Octets → Outcome
-  unended : Bool → Octets → Outcome
-  wrong : Outcome
-
 -- the remaining tokens of an entry, read from a text inside (true) or outside parentheses, and how
 -- reading ends
-abbrev pub Reads : Bool → Octets → List Token → Outcome → Type 0
-Reads is_open text [] outcome = (token_front text ≡ None) × (outcome ≡ unended is_open text)
-Reads is_open text (p ∷ ps) outcome =
+abbrev pub Reads : Bool → Octets → List Token → Ending → Type 0
+Reads is_open text [] ending = (token_front text ≡ None) × (ending ≡ at_stop is_open text)
+Reads is_open text (p ∷ ps) ending =
     (others : Octets) × (token_front text ≡ Some (p, others))
     × elim (step is_open p) [
-      | misplaced ↦ (ps ≡ []) × (outcome ≡ wrong)
-      | over ↦ (ps ≡ []) × (outcome ≡ ended others)
-      | onward now_open ↦ Reads now_open others ps outcome
+      | misplaced ↦ (ps ≡ []) × (ending ≡ at_parenthesis text)
+      | over ↦ (ps ≡ []) × (ending ≡ after_line others)
+      | onward now_open ↦ Reads now_open others ps ending
     ]
 
 abbrev pub token_words : List Token → List Word
@@ -52,24 +45,32 @@ line_ends ps = length (filter is_line_end ps)
 
 -- an entry was read: its words, the number of its line ends, and how it ended
 pub record EntryRead (text : Octets) (words : List Word) (lines : ℕ)
-    (outcome : Outcome) : Type 0 where
+    (ending : Ending) : Type 0 where
   pub tokens : List Token
-  pub reads : Reads false text tokens outcome
+  pub reads : Reads false text tokens ending
   pub words_are : words ≡ token_words tokens
   pub counted : lines ≡ line_ends tokens
 
--- the entry has a misplaced parenthesis
-abbrev pub IsWrong : Octets → Type 0
-IsWrong text = (ps : List Token) × Reads false text ps wrong
+-- the text at which reading an entry ends
+abbrev pub rest_in : Ending → Octets
+rest_in (after_line rest) = rest
+rest_in (at_parenthesis place) = place
+rest_in (at_stop is_open rest) = rest
 
-abbrev pub outcome_of : Bool → Bool → Octets → Outcome
-outcome_of is_ended is_open rest = if is_ended then ended rest else unended is_open rest
+abbrev pub ending_of : Bool → Bool → Octets → Ending
+ending_of is_ended is_open rest = if is_ended then after_line rest else at_stop is_open rest
 
 -- an entry is complete: it ends with a line end, or without a fault at the end of the text
 abbrev pub IsWhole : Option Bool → Bool → Bool → Octets → Type 0
 IsWhole goes_on is_ended is_open rest =
     (is_ended ≡ true)
     ⊎ (stop_fault (extent_by (unwrap_or goes_on true)) is_open (stop_at rest) ≡ None)
+
+-- an entry is complete, and `rest` follows it
+abbrev pub WholeBefore : Option Bool → Ending → Octets → Type 0
+WholeBefore goes_on ending rest =
+    (is_ended : Bool) × (is_open : Bool) × (ending ≡ ending_of is_ended is_open rest)
+    × IsWhole goes_on is_ended is_open rest
 
 -- what a text means from an entry on, after the earlier entries
 pub record TextMeans (o : DomainName) (earlier : List Entry) (goes_on : Bool) (text : Octets)

@@ -6,7 +6,7 @@ pub mod Steps
 pub mod RecordForm
 pub mod SourceForm
 pub mod PieceForm
-pub mod ScanForm
+pub mod PlaceForm
 pub mod EarlierForm
 pub mod JudgeForm
 pub mod ListingForm

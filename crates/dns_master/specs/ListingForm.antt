@@ -1,33 +1,37 @@
 -- The faults of a text as the code lists them, and the reading of one entry.
-use Rattle.std.specs.Prelude.{ℕ, ◌-◌, ◌≤◌, List, ◌∷◌, length, map, drop, false}
+use Rattle.std.specs.Prelude.{◌≡◌, ℕ, ◌-◌, ◌≤◌, List, ◌∷◌, length, false}
 use Rattle.dns_spec.specs.Names.{Octets, DomainName}
 use Rattle.dns_spec.specs.ZoneText.{Entry}
 use Rattle.dns_spec.specs.Records.{ResourceRecord}
 use Rattle.dns_spec.specs.FileFaults.{FileFault, no_owner, too_many_records}
 use Rattle.dns_spec.specs.Meaning.{Nothing, OriginIs}
-use Rattle.dns_spec.specs.EntryPlaces.{PlacedEntry, placed_entry, read_entry, empty_place, entries_from, entries_to_end}
+use Rattle.dns_spec.specs.EntryPlaces.{PlacedToken, PlacedEntry, placed_entry, read_entry, empty_place, entries_from, entries_to_end}
 use Rattle.dns_spec.specs.EntryPlaces as places
-use Rattle.dns_spec.specs.AllFaults.{first_place, HasFault, GivesOwn, EntriesGive, most_listed}
+use Rattle.dns_spec.specs.AllFaults.{place_after, HasFault, GivesOwn, EntriesGive, most_listed}
 use Rattle.dns_spec.specs.AllFaults as all
 use Rattle.dns_master.specs.Codes.{fault_of}
 use Rattle.dns_master.specs.EarlierForm.{LooksBack, Passed, handed}
-use Rattle.dns_master.specs.ScanForm.{shown_place, ScansEntry}
+use Rattle.dns_master.specs.EntryFound.{shown_ending}
+use Rattle.dns_master.specs.PlaceForm.{shown_place, words_read}
 use Rattle.dns_master.specs.declared.earlier.Earlier.{Earlier}
 use Rattle.dns_master.specs.declared.scanned.EntryFault.{EntryFault}
 use Rattle.dns_master.specs.declared.scanned.ScannedEntry.{ScannedEntry}
 use Rattle.dns_master.specs.declared.scanned.Judged.{Judged}
 use Rattle.dns_master.specs.declared.scanned.Judged.TheVariants.{Gives, Faulty}
 
--- the entry that begins a text, which ends with the `total` examined octets; `past` follows them
+-- the tokens of the entry that begins a text, which ends with the `total` examined octets, and how
+-- reading it ends
+abbrev pub entry_read : ℕ → Octets → List PlacedToken × places.Ending
+entry_read total text = read_entry (length text) false (total - length text) text
+
+-- this entry, if `past` follows the examined octets
 abbrev pub entry_at : ℕ → Octets → Octets → PlacedEntry
-entry_at total past text =
-    placed_entry total past text
-    (read_entry (length text) false (total - length text) text)
+entry_at total past text = placed_entry total past text (entry_read total text)
 
 -- an entry was read
 pub record EntryScanned (s : ScannedEntry) : Type 0 where
-  pub scanned : ScansEntry (length s.octets.now - length s.rest.now) s.rest.now
-      s.words.now s.places.now s.read
+  pub words_are : words_read (entry_read (length s.octets.now) s.rest.now).0 ≡ s.words.now
+  pub ending_is : (entry_read (length s.octets.now) s.rest.now).1 ≡ shown_ending s.read.ending
   pub short : length s.rest.now ≤ length s.octets.now
   pub few : length s.octets.now ≤ 16777216
 
@@ -38,7 +42,7 @@ placed s = entry_at (length s.octets.now) s.past.now s.rest.now
 abbrev pub spot_by : FileFault → ℕ → ScannedEntry → places.Span
 spot_by no_owner i s = empty_place (length s.octets.now - length s.rest.now)
 spot_by too_many_records i s = empty_place (length s.octets.now - length s.rest.now)
-spot_by fault i s = first_place (drop i (map shown_place s.places.now)) (empty_place s.read.ends)
+spot_by fault i s = place_after i (placed s)
 
 -- a fault, as the definitions have it
 abbrev pub shown_fault : EntryFault → all.EntryFault

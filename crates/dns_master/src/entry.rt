@@ -1,13 +1,13 @@
 //! The entries of a zone file. An entry ends at the first line end outside parentheses
 //! (RFC 1035 5.1).
-ghost use Rattle.std.specs.Prelude.{◌≡◌, ◌==◌, ◌≢◌, ◌+◌, ◌≤◌, ◌++◌, [], true, false, if◌then◌else◌, Some, None, length, IfOk, IfErr, IfSome};
+ghost use Rattle.std.specs.Prelude.{◌≡◌, ◌≢◌, ◌≤◌, Some, None, true, length, IfOk, IfErr, IfSome, MatchOption};
 ghost use Rattle.std.specs.Option.{option_map, unwrap_or};
-ghost use Rattle.std.specs.Bool.{MatchBool};
-ghost use Rattle.dns_spec.specs.FileFaults.{bad_parenthesis, too_long};
+ghost use Rattle.dns_spec.specs.FileFaults.{too_long};
 ghost use Rattle.dns_spec.specs.ZoneText.{is_cut_short, extent_by, stop_at, stop_fault, string_fault, token_fault, unless_cut_short, word_of};
+ghost use Rattle.dns_spec.specs.EntryPlaces.{ending_fault};
 ghost use Rattle.dns_master.specs.TokenForm.{shown_token};
-ghost use Rattle.dns_master.specs.EntryForm.{IsWhole, IsWrong, step};
-ghost use Rattle.dns_master.specs.EntryFound.{EntryFound};
+ghost use Rattle.dns_master.specs.EntryForm.{WholeBefore, step};
+ghost use Rattle.dns_master.specs.EntryFound.{EntryFound, shown_ending};
 ghost use Rattle.dns_master.specs.Steps.{shown_step};
 ghost use Rattle.dns_master.specs.Codes.{ForFault, fault_of};
 
@@ -15,65 +15,70 @@ use crate::read_fault::ReadCode;
 use crate::run::{RunKind, after_blanks};
 use crate::token::{Token, first_token};
 use dns_rdata::Word;
+use std::alloc::AllocError;
 
-// The most words of an entry that are stored: one more than a valid entry may have. Before the data
-// of a record come at most its owner, TTL, class and type. Data has at most 65,535 octets, each
-// spelled by a word at most, and the generic form has two more words, `\#` and the length.
-const MOST_WORDS: usize = 65_542;
+/// The most words of an entry that are stored while a file is read: one more than a valid entry may
+/// have.
+// Before the data of a record come at most its owner, TTL, class and type. Data has at most 65,535
+// octets, each spelled by a word at most, and the generic form has two more words, `\#` and the
+// length.
+pub(crate) const MOST_WORDS: usize = 65_542;
 
-/// How the first entry of a text ends.
-#[derive(Debug, Drop)]
-pub(crate) struct EntryEnd<'a> {
-    /// The number of line ends in the entry.
-    pub(crate) lines: u32,
-    /// Whether the entry ends with a line end.
-    pub(crate) is_ended: bool,
-    /// Whether a parenthesis is open at the end of the entry.
-    pub(crate) is_open: bool,
-    /// The text after the entry, or from the first octet at which no token begins.
-    pub(crate) rest: &'a [u8],
+/// How reading an entry ends.
+#[derive(Clone, Copy)]
+pub(crate) enum Ending<'a> {
+    /// After its line end, before this text.
+    AfterLine(&'a [u8]),
+    /// At a misplaced parenthesis, which begins this text.
+    AtParenthesis(&'a [u8]),
+    /// Before this text, with which no token begins, inside parentheses or not.
+    AtStop(bool, &'a [u8]),
 }
 
-/// Reads the first entry of a text, up to its end or to the first octet at which no token begins.
-/// Stores its words in `words`, but no more than the first 65,542: an entry of so many is invalid.
-///
-/// Fails with `Parenthesis` if a parenthesis is misplaced, and with `NoMemory` if allocation fails.
+/// How reading an entry ended.
+#[derive(Clone, Copy)]
+pub(crate) struct EntryScan<'a> {
+    /// The number of line ends in the entry.
+    pub(crate) lines: u32,
+    pub(crate) ending: Ending<'a>,
+}
+
+/// Reads the entry that begins a text, up to its end or its lexical fault. Stores its words in
+/// `words`, but no more than the first `most`.
 pub(crate) fn read_entry<'a>(
     text: &'a [u8],
+    most: usize,
     words: &mut Vec<Word<'a>>,
-) -> Result<EntryEnd<'a>, ReadCode>
+) -> Result<EntryScan<'a>, AllocError>
     requires { length text.now ≤ 16777217 }
-    ensures ok { IfOk result (λ end. EntryFound text.now words.new.items end) }
-    ensures err { IfErr result (λ code. ForFault code
-        (λ fault. (fault ≡ bad_parenthesis) × IsWrong text.now)) }
+    ensures { IfOk result (λ scan. EntryFound text.now most words.new.items scan) }
 {
     words.clear();
-    let mut end = EntryEnd {
-        lines: 0,
-        is_ended: false,
-        is_open: false,
-        rest: text,
-    };
-    'tokens: while let Some((token, others)) = first_token(end.rest) {
+    let (mut lines, mut is_open, mut rest) = (0, false, text);
+    'tokens: while let Some((token, others)) = first_token(rest) {
         if let Some(word) = word_of(token) {
-            if words.len() < MOST_WORDS {
+            if words.len() < most {
                 words.push(word)?;
             }
-            end.rest = after_blanks(others);
+            rest = after_blanks(others);
             continue;
         }
-        end.lines += u32::from(matches!(token, Token::LineEnd));
-        end.rest = others;
-        match step_after(token, end.is_open) {
-            Progress::Misplaced => return Err(ReadCode::Parenthesis),
-            Progress::Over => {
-                end.is_ended = true;
-                return Ok(end);
+        lines += u32::from(matches!(token, Token::LineEnd));
+        match step_after(token, is_open) {
+            Progress::Misplaced => {
+                let ending = Ending::AtParenthesis(rest);
+                return Ok(EntryScan { lines, ending });
             }
-            Progress::Onward(now_open) => end.is_open = now_open,
+            Progress::Over => {
+                let ending = Ending::AfterLine(others);
+                return Ok(EntryScan { lines, ending });
+            }
+            Progress::Onward(now_open) => is_open = now_open,
         }
+        rest = others;
     }
-    Ok(end)
+    let ending = Ending::AtStop(is_open, rest);
+    Ok(EntryScan { lines, ending })
 }
 
 pub(crate) fn word_of(token: Token<'_>) -> Option<Word<'_>>
@@ -108,32 +113,52 @@ pub(crate) fn step_after(token: Token<'_>, is_open: bool) -> Progress
     }
 }
 
-/// Whether an entry is complete: it ends with a line end, or without a fault at the end of a text
-/// that does not go on. `goes_on` says whether the text goes on past its limit, if that is known.
+/// The text after an entry, if the entry is complete: it ends with a line end, or without a fault
+/// at the end of a text that does not go on. `goes_on` says whether the text goes on past its
+/// limit, if that is known.
 ///
-/// Returns false if only more text could decide that. Fails with the fault at the end of the entry.
+/// Returns `None` if only more text could decide that. Fails with the lexical fault of the entry.
 #[tactic(auto, using(crate::proofs::Refusals::other_than_long))]
-pub(crate) fn is_whole(end: &EntryEnd<'_>, goes_on: Option<bool>) -> Result<bool, ReadCode>
-    ensures ok { IfOk result (λ whole. MatchBool whole
-        (IsWhole goes_on end.now.is_ended end.now.is_open end.now.rest.now) (goes_on ≡ None)) }
-    ensures err { IfErr result (λ code. ForFault code (λ fault. (end.now.is_ended ≡ false)
-        × (stop_fault (extent_by (unwrap_or goes_on true)) end.now.is_open
-        (stop_at end.now.rest.now) ≡ Some fault) × (goes_on ≡ None → fault ≢ too_long))) }
+pub(crate) fn rest_after<'a>(
+    ending: Ending<'a>,
+    goes_on: Option<bool>,
+) -> Result<Option<&'a [u8]>, ReadCode>
+    ensures ok { IfOk result (λ found. MatchOption found (goes_on ≡ None)
+        (λ rest. WholeBefore goes_on (shown_ending ending.entry) rest.now)) }
+    ensures err { IfErr result (λ code. ForFault code (λ fault.
+        (ending_fault (extent_by (unwrap_or goes_on true)) (shown_ending ending.entry) ≡ Some fault)
+        × (goes_on ≡ None → fault ≢ too_long))) }
 {
-    if end.is_ended {
-        return Ok(true);
-    }
-    match stop_fault(end.rest, end.is_open, goes_on.unwrap_or(true)) {
-        None => Ok(true),
-        Some(ReadCode::TooLong) if goes_on.is_none() => Ok(false),
-        Some(fault) => Err(fault),
+    match ending {
+        Ending::AfterLine(rest) => Ok(Some(rest)),
+        Ending::AtParenthesis(_) => Err(ReadCode::Parenthesis),
+        Ending::AtStop(is_open, rest) => {
+            match stop_fault(rest, is_open, goes_on.unwrap_or(true)) {
+                None => Ok(Some(rest)),
+                Some(ReadCode::TooLong) if goes_on.is_none() => Ok(None),
+                Some(fault) => Err(fault),
+            }
+        }
     }
 }
 
-/// The fault of an entry that no line end ends. `rest` is the text after its tokens, with which no
-/// token begins, and `is_open` is whether they leave a parenthesis open. `goes_on` is whether the
-/// text goes on past its limit.
-pub(crate) fn stop_fault(rest: &[u8], is_open: bool, goes_on: bool) -> Option<ReadCode>
+/// The lexical fault of an entry, by how reading it ends. `goes_on` is whether the text goes on
+/// past its limit.
+pub(crate) fn ending_fault(ending: Ending<'_>, goes_on: bool) -> Option<ReadCode>
+    ensures { option_map fault_of result
+        ≡ ending_fault (extent_by goes_on) (shown_ending ending.entry) }
+{
+    match ending {
+        Ending::AfterLine(_) => None,
+        Ending::AtParenthesis(_) => Some(ReadCode::Parenthesis),
+        Ending::AtStop(is_open, rest) => stop_fault(rest, is_open, goes_on),
+    }
+}
+
+// The fault of an entry that no line end ends. `rest` is the text after its tokens, with which no
+// token begins, and `is_open` is whether they leave a parenthesis open. `goes_on` is whether the
+// text goes on past its limit.
+fn stop_fault(rest: &[u8], is_open: bool, goes_on: bool) -> Option<ReadCode>
     ensures value { option_map fault_of result
         ≡ stop_fault (extent_by goes_on) is_open (stop_at rest.now) }
     ensures source { IfSome result (λ code. code ≢ ReadCode.SourceFailed) }

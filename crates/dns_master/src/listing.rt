@@ -7,9 +7,10 @@ ghost use Rattle.dns_master.specs.EarlierForm.{LooksBack};
 ghost use Rattle.dns_master.specs.FaultListForm.{IsList, ListsOctets, ListsText, ReadsOctets, TakesEntry};
 
 use crate::earlier::Earlier;
+use crate::entry::read_entry;
+use crate::place::text_after;
 use crate::read_fault::{ReadCode, ReadFault};
 use crate::record_collection::RecordCollection;
-use crate::scan::{scan, text_after};
 use crate::scanned::{EntryFault, Judged, ScannedEntry};
 use crate::source::{MOST_FILE_OCTETS, PIECE, append_piece};
 use dns_name::{Name, Tally};
@@ -110,19 +111,18 @@ fn list_octets<C: RecordCollection>(
 {
     let mut listing = Listing::none(alloc, origin);
     let mut buffers = DataBuffers::new(alloc);
-    let (mut words, mut places) = (Vec::new(alloc), Vec::new(alloc));
+    let mut words = Vec::new(alloc);
     let mut rest = octets;
     // Only the last entry may be empty, so there are fewer than this many.
     let mut left = octets.len() + 1;
     'entries: while left > 0 {
         left -= 1;
-        let read = scan(rest, octets.len() - rest.len(), &mut words, &mut places)?;
+        let read = read_entry(rest, usize::MAX, &mut words)?;
         let entry = ScannedEntry {
             octets,
             past,
             rest,
             words: words.as_slice(),
-            places: places.as_slice(),
             read,
         };
         if !listing.take(&entry, &mut buffers, collection)? {

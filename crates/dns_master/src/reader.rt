@@ -6,7 +6,7 @@ ghost use Rattle.dns_master.specs.EarlierForm.{handed};
 ghost use Rattle.dns_master.specs.PieceForm.{TakesFirst, FrontFaulty};
 
 use crate::earlier::Earlier;
-use crate::entry::{is_whole, read_entry};
+use crate::entry::{MOST_WORDS, read_entry, rest_after};
 use crate::pieces::PieceReader;
 use crate::read_fault::{ReadCode, ReadFault};
 use crate::record::Record;
@@ -106,15 +106,16 @@ impl Reader {
         ensures err { IfErr result (λ code. ForFault code
             (λ fault. FrontFaulty goes_on self.old text.now fault self.old.line)) }
     {
-        let end = read_entry(text, words)?;
-        if !is_whole(&end, goes_on)? {
+        let Ok(scan) = read_entry(text, MOST_WORDS, words) else {
+            return Err(ReadCode::NoMemory);
+        };
+        let Some(rest) = rest_after(scan.ending, goes_on)? else {
             return Ok(None);
-        }
-        let (lines, rest) = (end.lines, end.rest);
+        };
         let is_blank_led = text.first().is_some_and(|first| is_blank(*first));
         match self.earlier.take(is_blank_led, words.as_slice(), buffers) {
             Ok(taken) => {
-                self.line += lines;
+                self.line += scan.lines;
                 Ok(Some((taken, rest)))
             }
             Err(blame) => Err(blame.code),

@@ -4,15 +4,18 @@ ghost use Rattle.std.specs.List.{list_any};
 ghost use Rattle.std.specs.Option.{option_map};
 ghost use Rattle.dns_spec.specs.ZoneText.{extent_by, is_blank};
 ghost use Rattle.dns_spec.specs.EntryPlaces.{empty_place, end_octets, ending_fault, fault_place};
-ghost use Rattle.dns_spec.specs.AllFaults.{first_place};
+ghost use Rattle.dns_spec.specs.AllFaults.{place_after};
 ghost use Rattle.dns_master.specs.Codes.{fault_of};
-ghost use Rattle.dns_master.specs.ScanForm.{shown_ending, shown_place};
+ghost use Rattle.dns_master.specs.EntryFound.{shown_ending};
+ghost use Rattle.dns_master.specs.PlaceForm.{shown_place};
 ghost use Rattle.dns_master.specs.ListingForm.{EntryScanned, Judges, PassesEntry, placed, spot_by};
 
 use crate::earlier::{Blame, Earlier};
+use crate::entry::{EntryScan, Progress, ending_fault, step_after, word_of};
+use crate::place::{Span, stop_octets, stop_place};
 use crate::read_fault::ReadCode;
 use crate::run::is_blank;
-use crate::scan::{EntryScan, Span, ending_fault, stop_place};
+use crate::token::first_token;
 use dns_rdata::{DataBuffers, Word};
 use std::alloc::AllocError;
 
@@ -46,8 +49,6 @@ pub(crate) struct ScannedEntry<'a, 'w> {
     /// The octets from the beginning of the entry on.
     pub(crate) rest: &'w [u8],
     pub(crate) words: &'a [Word<'w>],
-    /// The place of each word.
-    pub(crate) places: &'a [Span],
     /// How reading the entry ended.
     pub(crate) read: EntryScan<'w>,
 }
@@ -114,6 +115,7 @@ impl ScannedEntry<'_, '_> {
 
     // The fault of the entry that this blame states.
     fn fault_by(&self, blame: Blame) -> EntryFault
+        requires short { length self.now.rest.now ≤ length self.now.octets.now }
         ensures code { result.code ≡ blame.code }
         ensures number { result.number ≡ blame.number }
         ensures place { shown_place result.place
@@ -133,18 +135,29 @@ impl ScannedEntry<'_, '_> {
     }
 
     // The place of the word after `number` words; the end of the entry if it has no such word.
-    #[tactic(auto, using(crate::proofs::ListingSteps::past_spot, crate::proofs::ListingSteps::spot_at))]
+    // Reads the entry again, because few entries are faulty.
     fn place_after(&self, number: usize) -> Span
-        ensures { shown_place result ≡ first_place
-            (drop number (map shown_place self.now.places.now)) (empty_place self.now.read.ends) }
+        requires short { length self.now.rest.now ≤ length self.now.octets.now }
+        ensures { shown_place result ≡ place_after number (placed self.now) }
     {
-        if number >= self.places.len() {
-            return Span::empty(self.read.ends);
+        let total = self.octets.len();
+        let (mut left, mut is_open, mut rest) = (number, false, self.rest);
+        'tokens: while let Some((token, others)) = first_token(rest) {
+            let begins = total - rest.len();
+            match step_after(token, is_open) {
+                Progress::Misplaced => return Span::empty(begins),
+                Progress::Over => return Span::empty(begins),
+                Progress::Onward(now_open) => is_open = now_open,
+            }
+            if word_of(token).is_some() {
+                if left == 0 {
+                    let ends = total - others.len();
+                    return Span { begins, ends };
+                }
+                left -= 1;
+            }
+            rest = others;
         }
-        let (_, later) = self.places.split_at(number);
-        match later.split_first() {
-            Some((place, _)) => *place,
-            None => Span::empty(self.read.ends),
-        }
+        Span::empty(total - stop_octets(rest).len())
     }
 }
