@@ -1,5 +1,5 @@
 -- An entry of more words than are stored is invalid, and so are its stored words.
-use Rattle.dns_master.proofs.Common.{◌≡◌, ℕ, zero, suc, ◌+◌, ◌<◌, ◌≤◌, inl, inr, Bool, true, false, if◌then◌else◌, List, [], ◌∷◌, length, length-drop, take, take_all, drop, refl, sym, ◌∙◌, subst, arith, codes, DomainName, ResourceRecord, Word, Entry, FileFault, bad_owner, no_owner, directive, owned, unowned, EntryMeaning, gives, faulty, Nothing, NameIs, OwnerBefore, TtlSays, Fields, fields, TypeIs, DataIs, RecordGives, KindGives, kind_by_words, is_directive, text_in_lower_case, Octets, most_words}
+use Rattle.dns_master.proofs.Common.{◌≡◌, ℕ, zero, suc, ◌+◌, ◌<◌, ◌≤◌, ◌⊎◌, inl, inr, Bool, true, false, if◌then◌else◌, List, [], ◌∷◌, length, length-drop, take, take_all, drop, refl, sym, ◌∙◌, subst, arith, codes, DomainName, ResourceRecord, Word, Entry, FileFault, bad_owner, no_owner, directive, owned, unowned, EntryMeaning, gives, faulty, Nothing, NameIs, OwnerBefore, TtlSays, Fields, fields, TypeIs, DataIs, RecordGives, KindGives, kind_by_words, is_directive, text_in_lower_case, Octets, most_words}
 use Rattle.std.specs.Bool.{MatchBool}
 use Rattle.std.proofs.lemmas.Bool.{cases_lt}
 use Rattle.std.proofs.lemmas.List.{length-take}
@@ -61,6 +61,24 @@ Refuses given = (rs : List ResourceRecord) → given ≡ gives rs → ⊥
 is-fault : (given : EntryMeaning) (code : FileFault) → given ≡ faulty code → Refuses given
 is-fault given code is rs e = faultless rs code (sym e ∙ is)
 
+-- the first fault in a list, of which one condition is now another
+next : {P Q A B : Type 0} {code : FileFault} {given : EntryMeaning} → (P → Q) → (Q → P)
+    → (A → B × Refuses given) → (P × (given ≡ faulty code)) ⊎ ((P → ⊥) × A)
+    → ((Q × (given ≡ faulty code)) ⊎ ((Q → ⊥) × B)) × Refuses given
+next f g later (inl (holds, is)) = (inl (f holds, is), is-fault _ _ is)
+next f g later (inr (none, h)) = let rest = later h in (inr (λ q. none (g q), rest.0), rest.1)
+
+same-next : {P A B : Type 0} {code : FileFault} {given : EntryMeaning} → (A → B × Refuses given)
+    → (P × (given ≡ faulty code)) ⊎ ((P → ⊥) × A)
+    → ((P × (given ≡ faulty code)) ⊎ ((P → ⊥) × B)) × Refuses given
+same-next = next (λ p. p) (λ p. p)
+
+last-next : {P Q A B : Type 0} {code : FileFault} {given : EntryMeaning} → Q → P
+    → (P × (given ≡ faulty code)) ⊎ ((P → ⊥) × A)
+    → ((Q × (given ≡ faulty code)) ⊎ ((Q → ⊥) × B)) × Refuses given
+last-next q p (inl (holds, is)) = (inl (q, is), is-fault _ _ is)
+last-next q p (inr (none, h)) = absurd (none p)
+
 -- two arguments or more are invalid
 says-cut : {A : Type 0} (P : A → Word → Type 0) (w v : Word) (some all : List Word)
     (given : EntryMeaning) → DirectiveSays P (w ∷ v ∷ some) given
@@ -78,45 +96,10 @@ module _ (o : DomainName) (earlier : List Entry) where
       (given : EntryMeaning) → 65538 < length f.others → 65538 < length (take (suc m) f.others)
       → RecordGives o earlier code Owner (cut_to (suc m) f) given
       → RecordGives o earlier code Owner f given × Refuses given
-  record-cut code Owner m f given long long' (inl (none, is)) =
-      (inl (none, is), is-fault given _ is)
-  record-cut code Owner m f given long long' (inr (owner, inl (ttl, is))) =
-      (inr (owner, inl (ttl, is)), is-fault given _ is)
-  record-cut code Owner m f given long long' (inr (owner, inr (ttl, inl (class, is)))) =
-      (inr (owner, inr (ttl, inl (class, is))), is-fault given _ is)
-  record-cut code Owner m f given long long'
-      (inr (owner, inr (ttl, inr (class, inl (none, is))))) = (
-        inr (owner, inr (ttl, inr (class, inl (λ t h. none t (type-all m f.others t h), is)))),
-        is-fault given _ is,
-      )
-  record-cut code Owner m f given long long'
-      (inr (owner, inr (ttl, inr (class, inr (typed, inl (none, is)))))) = (
-        inr (owner, inr (ttl, inr (class, inr (has-type typed, inl (none, is))))),
-        is-fault given _ is,
-      )
-    where
-      has-type : (Nothing (TypeIs (take (suc m) f.others)) → ⊥) → Nothing (TypeIs f.others) → ⊥
-      has-type typed none = typed (λ t h. none t (type-cut m f.others t h))
-  record-cut code Owner m f given long long'
-      (inr (owner, inr (ttl, inr (class, inr (typed, inr (in_force, inl (none, is))))))) = (
-        inr (
-          owner,
-          inr (
-            ttl,
-            inr (
-              class,
-              inr (
-                λ untyped. typed (λ t h. untyped t (type-cut m f.others t h)),
-                inr (in_force, inl (no-data f.others long, is)),
-              ),
-            ),
-          ),
-        ),
-        is-fault given _ is,
-      )
-  record-cut code Owner m f given long long'
-      (inr (owner, inr (ttl, inr (class, inr (typed, inr (in_force, inr (spelled, rest))))))) =
-      absurd (spelled (no-data (take (suc m) f.others) long'))
+  record-cut code Owner m f given long long' =
+      same-next (same-next (same-next (next
+      (λ none t h. none t (type-all m f.others t h)) (λ none t h. none t (type-cut m f.others t h))
+      (same-next (last-next (no-data f.others long) (no-data (take (suc m) f.others) long'))))))
 
   directive-cut : (name : Octets) (w v : Word) (some all : List Word) (given : EntryMeaning)
       → DirectiveGives o earlier name (w ∷ v ∷ some) given

@@ -1,11 +1,11 @@
 -- Reading an entry token by token: the tokens so far, followed by the remaining ones, are those of
 -- the entry.
-use Rattle.dns_master.proofs.Common.{◌≡◌, ℕ, ◌+◌, ◌≤◌, Bool, true, false, cond, List, [], ◌∷◌, ◌++◌, length, refl, sym, ap, ◌∙◌, subst, arith, append_assoc, append-nil, Some, None, Octets, Word, Token, token_front, is_line_end, word_of, filter, cons_option, front-shorter, misplaced, over, onward, step, Reads, token_words, line_ends, EntryRead, is_blank, drop, prefix_len}
+use Rattle.dns_master.proofs.Common.{◌≡◌, ℕ, ◌+◌, ◌≤◌, Bool, true, false, cond, List, [], ◌∷◌, ◌++◌, length, refl, sym, ap, ◌∙◌, subst, arith, append_assoc, append-nil, Some, None, Octets, Word, Token, token_front, is_line_end, word_of, filter, cons_option, front-shorter, onward, step, Reads, token_words, line_ends, EntryRead, is_blank, drop, prefix_len}
 use Rattle.dns_master.proofs.RunLemmas.{blank-first}
 use Rattle.dns_master.proofs.Common.{◌<◌, length-append, take, take_all}
 use Rattle.std.proofs.lemmas.List.{length-take, take-append-le}
 use Rattle.dns_spec.specs.ZoneText.{blank}
-use Rattle.dns_spec.specs.EntryPlaces.{Ending, after_line, at_parenthesis, at_stop}
+use Rattle.dns_spec.specs.EntryPlaces.{Ending, at_stop}
 use Rattle.dns_spec.proofs.General.Options.{cons_option-append}
 
 pub words-append : (ps qs : List Token) → token_words (ps ++ qs) ≡ token_words ps ++ token_words qs
@@ -102,15 +102,15 @@ module _ (text : Octets) where
           (omega arith)))
 
   -- the token that ends the entry is read
-  pub entry-ended : (is_open : Bool) (rest others : Octets) (p : Token) (words words' : List Word)
-      (lines lines' : ℕ) → EntrySoFar is_open rest words lines → token_front rest ≡ Some (p, others)
-      → step is_open p ≡ over → words' ≡ words ++ token_words (p ∷ [])
-      → lines' ≡ lines + line_ends (p ∷ []) → EntryRead text words' lines' (after_line others)
-  entry-ended is_open rest others p words words' lines lines' so front is_over w l =
+  pub entry-ended : (is_open : Bool) (rest : Octets) (p : Token) (words : List Word) (ending : Ending)
+      (lines lines' : ℕ) → EntrySoFar is_open rest words lines → Reads is_open rest (p ∷ []) ending
+      → lines' ≡ lines + line_ends (p ∷ [])
+      → EntryRead text (words ++ token_words (p ∷ [])) lines' ending
+  entry-ended is_open rest p words ending lines lines' so reads l =
       record {
         tokens = so.tokens ++ p ∷ [];
-        reads = so.whole (p ∷ []) (after_line others) (others, front, rw is_over (refl, refl));
-        words_are = w ∙ ap (λ x. x ++ token_words (p ∷ [])) so.same_words
+        reads = so.whole (p ∷ []) ending reads;
+        words_are = ap (λ x. x ++ token_words (p ∷ [])) so.same_words
             ∙ sym (words-append so.tokens (p ∷ []));
         counted =
             l ∙ ap (λ n. n + line_ends (p ∷ [])) so.counted ∙ sym (lines-append so.tokens (p ∷ []));
@@ -127,19 +127,4 @@ module _ (text : Octets) where
             (append-nil so.tokens) (so.whole [] (at_stop is_open rest) (none, refl));
         words_are = w ∙ so.same_words;
         counted = so.counted;
-      }
-
-  -- a misplaced parenthesis ends the entry
-  pub entry-wrong : (is_open : Bool) (rest others : Octets) (p : Token) (words words' : List Word)
-      (lines lines' : ℕ) → EntrySoFar is_open rest words lines → token_front rest ≡ Some (p, others)
-      → step is_open p ≡ misplaced → words' ≡ words ++ token_words (p ∷ [])
-      → lines' ≡ lines + line_ends (p ∷ []) → EntryRead text words' lines' (at_parenthesis rest)
-  entry-wrong is_open rest others p words words' lines lines' so front is_wrong w l =
-      record {
-        tokens = so.tokens ++ p ∷ [];
-        reads = so.whole (p ∷ []) (at_parenthesis rest) (others, front, rw is_wrong (refl, refl));
-        words_are = w ∙ ap (λ x. x ++ token_words (p ∷ [])) so.same_words
-            ∙ sym (words-append so.tokens (p ∷ []));
-        counted =
-            l ∙ ap (λ n. n + line_ends (p ∷ [])) so.counted ∙ sym (lines-append so.tokens (p ∷ []));
       }

@@ -1,5 +1,5 @@
 use Rattle.dns_master.proofs.Common.{length-drop, prefix_len, is_blank, rules, ◌≡◌, ◌+◌, ◌≤◌, ◌∷◌, ◌++◌, [], Some, length, take, refl, sym, ap, ◌∙◌, arith, front-shorter, shown_token, misplaced, over, onward, step, line_ends, token_words, word_of}
-use Rattle.dns_master.proofs.EntryLoop.{blanks-passed, entry-ended, entry-unended, entry-wrong, lines-shorter, token-read, word-stored, word-left_out, other-passed}
+use Rattle.dns_master.proofs.EntryLoop.{blanks-passed, entry-ended, entry-unended, lines-shorter, token-read, word-stored, word-left_out, other-passed}
 use Rattle.dns_master.proofs.ScanSteps.{wrong-lines}
 use Rattle.dns_master.proofs.entry.read_entry.Goals as goal
 use Rattle.dns_master.proofs.entry.read_entry.Goals.{in-LineEnd, in_default-matches, then-len-most+in_ok-push, else-len-most}
@@ -53,9 +53,10 @@ returns-in-Misplaced c =
     let is_wrong : step c.tokens.is_open token ≡ misplaced = search rules in
     record {
       all = c.tokens.invariant.all ++ token_words (token ∷ []);
-      read = entry-wrong _ c.tokens.is_open c.tokens.rest.now c.in-Some.others.now
-          token _ _ _ _ c.tokens.invariant.so_far c.in-Some.ensures is_wrong
-          refl (ap (λ n. c.tokens.lines + n) counted);
+      read = entry-ended _ c.tokens.is_open c.tokens.rest.now token _ _ _ _
+          c.tokens.invariant.so_far
+          (c.in-Some.others.now, c.in-Some.ensures, rw is_wrong (refl, refl))
+          (ap (λ n. c.tokens.lines + n) counted);
       stored = other-passed c.args.most _ _ token c.tokens.invariant.stored
           (sym c.word_of.ensures ∙ c.in_default-word_of.is);
       bound = omega (arith, counted, wrong-lines _ token is_wrong, c.tokens.invariant.bound);
@@ -72,9 +73,10 @@ returns-in-Over c =
     c.in-Some.ensures in
     record {
       all = c.tokens.invariant.all ++ token_words (token ∷ []);
-      read = entry-ended _ c.tokens.is_open c.tokens.rest.now c.in-Some.others.now
-          token _ _ _ _ c.tokens.invariant.so_far c.in-Some.ensures is_over
-          refl (ap (λ n. c.tokens.lines + n) counted);
+      read = entry-ended _ c.tokens.is_open c.tokens.rest.now token _ _ _ _
+          c.tokens.invariant.so_far
+          (c.in-Some.others.now, c.in-Some.ensures, rw is_over (refl, refl))
+          (ap (λ n. c.tokens.lines + n) counted);
       stored = other-passed c.args.most _ _ token c.tokens.invariant.stored
           (sym c.word_of.ensures ∙ c.in_default-word_of.is);
       bound = omega (arith, lines, counted, c.tokens.invariant.bound);
