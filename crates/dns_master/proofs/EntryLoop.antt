@@ -102,8 +102,8 @@ module _ (text : Octets) where
           (omega arith)))
 
   -- the token that ends the entry is read
-  pub entry-ended : (is_open : Bool) (rest : Octets) (p : Token) (words : List Word) (ending : Ending)
-      (lines lines' : ℕ) → EntrySoFar is_open rest words lines → Reads is_open rest (p ∷ []) ending
+  pub entry-ended : (is_open : Bool) (rest : Octets) (p : Token) (words : List Word)
+      (ending : Ending) (lines lines' : ℕ) → EntrySoFar is_open rest words lines → Reads is_open rest (p ∷ []) ending
       → lines' ≡ lines + line_ends (p ∷ [])
       → EntryRead text (words ++ token_words (p ∷ [])) lines' ending
   entry-ended is_open rest p words ending lines lines' so reads l =
