@@ -32,7 +32,7 @@ pub use Rattle.dns_spec.proofs.ZoneChecks.PassedChecks.{checks_of_origin, one_so
 pub use Rattle.dns_spec.specs.Checks.{below_cut, outside}
 pub use Rattle.dns_spec.specs.Tree.{closest_encloser, without_first}
 pub use Rattle.dns_zone.specs.EntryForm.{IsEntry, data_in, owner_in}
-pub use Rattle.dns_zone.specs.KeyForm.{BeginsAs, ended, name_key, raised}
+pub use Rattle.dns_zone.specs.KeyForm.{BeginAlike, ended, name_key, raised}
 pub use Rattle.dns_zone.specs.OwnerKeysForm.{AreKeyed, key_in}
 pub use Rattle.dns_zone.specs.SortKeyForm.{AreApart, AreFronts, AreSortKeys, AreSorted, IsSortKey, no_record, own_order, sorted_key, sort_key_order, placed}
 pub use Rattle.dns_zone.specs.LabelKey.{IsEight, IsKey}

@@ -1,5 +1,5 @@
 -- The keys of names in lower case are in the order of the names.
-use Rattle.dns_zone.proofs.Common.{◌≡◌, ℕ, ◌+◌, ◌<◌, ◌≤◌, ◌⊎◌, inl, inr, [], ◌∷◌, ◌++◌, length, drop, get_or, map, reverse, refl, sym, ap, ap₂, ◌∙◌, Ordering, Less, Equal, Greater, nat_cmp, arith, cases_order, cases_lt, lt-ltb, le-ltb, flat_map-cons, to_ascii_lowercase, nat_cmp_is, slice_cmp, flat_map, ordering_then, Octets, DomainName, folded, label_order, name_order, wire, reverse-append, length-map, length-append, flat_map_more, lowercase_is, raised, ended, name_key}
+use Rattle.dns_zone.proofs.Common.{◌≡◌, ℕ, ◌+◌, ◌<◌, ◌⊎◌, inl, inr, [], ◌∷◌, ◌++◌, length, drop, get_or, map, reverse, refl, sym, ap, ap₂, ◌∙◌, Ordering, Less, Equal, Greater, nat_cmp, arith, cases_order, cases_lt, flat_map-cons, to_ascii_lowercase, nat_cmp_is, slice_cmp, flat_map, ordering_then, Octets, DomainName, folded, label_order, name_order, wire, reverse-append, length-map, length-append, flat_map_more, lowercase_is, raised, ended, name_key}
 use Rattle.dns_spec.proofs.General.Orderings.{then_assoc}
 use Rattle.dns_spec.proofs.General.Elements.{map_reverse}
 

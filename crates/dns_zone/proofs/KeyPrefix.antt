@@ -1,7 +1,7 @@
 -- The key of a name begins with another name's key if and only if the name is at or below the
 -- other.
-use Rattle.dns_zone.proofs.Common.{◌≡◌, ℕ, ◌<◌, ◌≤◌, ◌==◌, Bool, true, [], ◌∷◌, ◌++◌, length, take, drop, get_or, map, reverse, refl, sym, ap, ap₂, ◌∙◌, arith, length-append, append-nil, nat_lt, cases_order, lt-ltb, ltb-true, le-ltb, and_from, and_parts, and_right, flat_map-cons, take-append_seam, to_ascii_lowercase, flat_map, starts_with, Octets, DomainName, folded, at_or_below, below, reverse-append, reverse-reverse, append_assoc, take-append-drop, octets_equal-decides, same_tests, raised, ended, name_key}
-use Rattle.dns_zone.proofs.KeyOrder.{IsLow, low_octet, raised_some, raised_less, key_flat}
+use Rattle.dns_zone.proofs.Common.{◌≡◌, ◌<◌, ◌≤◌, ◌==◌, Bool, true, [], ◌∷◌, ◌++◌, length, take, drop, get_or, map, reverse, refl, sym, ap, ap₂, ◌∙◌, arith, length-append, append-nil, nat_lt, lt-ltb, ltb-true, le-ltb, and_from, and_parts, and_right, flat_map-cons, take-append_seam, to_ascii_lowercase, flat_map, starts_with, Octets, DomainName, folded, at_or_below, below, reverse-append, reverse-reverse, append_assoc, take-append-drop, octets_equal-decides, same_tests, raised, ended, name_key}
+use Rattle.dns_zone.proofs.KeyOrder.{low_octet, raised_some, key_flat}
 use Rattle.dns_zone.proofs.NameTree.{Under, under-is, under-from}
 use Rattle.dns_spec.proofs.General.Elements.{map_reverse}
 

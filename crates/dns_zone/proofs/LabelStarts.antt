@@ -1,5 +1,5 @@
 -- The offsets of the labels of a name, one label after the other.
-use Rattle.dns_zone.proofs.Common.{◌≡◌, ◌⊎◌, ℕ, ◌+◌, ◌<◌, List, ◌∷◌, refl, sym, ap, ◌∙◌, Octets, DomainName, length, drop, length-drop, get_or, set, subst, arith, drop_more, drop-drop, get_or-set_same, get_or-set_other, IsName-is_name, labels_of, IsWireForm, BeginsWithLabel-IsWireForm, labels_of-zero, BeginsAt, AreStarts}
+use Rattle.dns_zone.proofs.Common.{◌≡◌, ℕ, ◌+◌, ◌<◌, List, ◌∷◌, refl, sym, ap, ◌∙◌, Octets, DomainName, length, drop, length-drop, get_or, set, subst, arith, drop_more, drop-drop, get_or-set_same, get_or-set_other, IsName-is_name, labels_of, IsWireForm, BeginsWithLabel-IsWireForm, labels_of-zero, BeginsAt, AreStarts}
 use Rattle.dns_zone.proofs.WrittenKeys.{some as some-octet}
 
 -- the first label begins at offset 0

@@ -1,5 +1,5 @@
 -- The keys of owners, in one shared list of octets.
-use Rattle.dns_zone.proofs.Common.{◌≡◌, ℕ, ◌+◌, sym, ◌∙◌, get_or-drop, ◌-◌, ◌<◌, ◌≤◌, List, [], ◌∷◌, ◌++◌, length, take, drop, get_or, ap, arith, length-take, length-drop, subst, cases_lt, Octets, DomainName, wire, ResourceRecord, take-append-le, drop-append-le, drop-append_seam, take-length, name_key, key_in, AreKeyed}
+use Rattle.dns_zone.proofs.Common.{◌≡◌, ℕ, ◌+◌, sym, ◌∙◌, get_or-drop, ◌-◌, ◌<◌, List, ◌∷◌, ◌++◌, length, drop, get_or, ap, arith, length-take, length-drop, subst, cases_lt, Octets, DomainName, wire, ResourceRecord, take-append-le, drop-append-le, drop-append_seam, take-length, name_key, key_in, AreKeyed}
 use Rattle.dns_zone.proofs.KeyOrder.{key_length}
 
 -- the key of a name stays where it is when octets are added after it

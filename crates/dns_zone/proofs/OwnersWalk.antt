@@ -6,7 +6,7 @@ use Rattle.dns_zone.proofs.ChildRows.{at_in_front}
 use Rattle.dns_zone.proofs.NameTree.{itself-under}
 use Rattle.dns_zone.proofs.OwnRecords.{own_types}
 use Rattle.dns_zone.proofs.ReportedNames.{greater_after}
-use Rattle.dns_spec.proofs.General.Elements.{each_both, each_always}
+use Rattle.dns_spec.proofs.General.Elements.{each_both}
 use Rattle.dns_spec.proofs.General.Filters.{filter_all, filter_within}
 use Rattle.dns_spec.proofs.General.Pairs.{Pairs, pairs_filter, unmoved}
 use Rattle.dns_spec.proofs.General.Fronts.{front}

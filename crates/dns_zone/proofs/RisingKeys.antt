@@ -1,5 +1,5 @@
 -- Sort keys that rise, and rise with one more.
-use Rattle.dns_zone.proofs.Common.{◌≡◌, ℕ, ◌+◌, ◌-◌, ◌<◌, ◌≤◌, List, take, get_or, length, length-take, length-drop, get_or-drop, get_or-take, get_or_append_left, Ordering, Less, Greater, ordering_reverse, ap, refl, suc, [], ◌∷◌, false, is_eq, is_lt, IsSorted, IsTotalOrder, get_or_default, ◌∙◌, arith, cases_order, SwappedAt, Octets, ResourceRecord, SortKey, sort_key_order}
+use Rattle.dns_zone.proofs.Common.{◌≡◌, ℕ, ◌+◌, ◌-◌, ◌<◌, ◌≤◌, List, take, get_or, length, length-take, length-drop, get_or-drop, get_or-take, get_or_append_left, Ordering, Less, Greater, ordering_reverse, ap, refl, suc, [], ◌∷◌, false, is_lt, IsSorted, IsTotalOrder, get_or_default, ◌∙◌, arith, cases_order, SwappedAt, Octets, ResourceRecord, SortKey, sort_key_order}
 use Rattle.dns_zone.proofs.SortKeyOrder.{sort_key_order_total}
 use Rattle.dns_zone.specs.SortKeyForm.{RiseUpTo, no_sort_key}
 use Rattle.std.specs.List.{RotatedRight, dedup, dedup_from}

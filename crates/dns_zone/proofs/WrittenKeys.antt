@@ -1,8 +1,7 @@
 -- The key of a name, from the key of its parent.
-use Rattle.dns_zone.proofs.Common.{◌≡◌, ℕ, ◌+◌, ◌-◌, ◌<◌, ◌≤◌, ◌∷◌, length, take, sym, ap, ◌∙◌, arith, length-append, length-map, Octets, wire, labels_of, IsWireForm, ended, name_key, BeginsAs}
+use Rattle.dns_zone.proofs.Common.{◌≡◌, ℕ, zero, suc, ◌+◌, ◌<◌, [], ◌∷◌, ◌++◌, length, take, drop, get_or, refl, sym, ap, ◌∙◌, subst, arith, length-append, length-map, take_all, Octets, DomainName, wire, labels_of, IsWireForm, ended, ending, name_key, BeginAlike}
 use Rattle.dns_zone.proofs.KeyOrder.{key_length}
 use Rattle.dns_spec.proofs.DomainNames.WireNames.{wire_some}
-use Rattle.std.proofs.lemmas.List.{take-append-le, take_all, take-take, length-take}
 
 -- the length of a wire form
 pub size : (xs : Octets) → IsWireForm xs → length xs ≡ length (wire (labels_of xs))
@@ -23,39 +22,47 @@ long octets rest label form after first =
     + (length label + 1) = grind (arith, length-append, length-map) in
     omega (arith, key_size octets form, key_size rest after, whole)
 
--- the key of a name begins with its parent's, and with its own
-pub parent_begins : (octets rest label : Octets) → IsWireForm rest
-    → labels_of octets ≡ label ∷ labels_of rest → BeginsAs rest (name_key (labels_of octets))
-parent_begins octets rest label after first fits =
-    ap (λ n. take (length rest - 1) (name_key n)) first
-    ∙ take-append-le (length rest - 1) (name_key (labels_of rest)) (ended label)
-    (omega (arith, key_size rest after))
-    ∙ take_all (length rest - 1) (name_key (labels_of rest)) (omega (arith, key_size rest after))
+none : (n : ℕ) → ◌≡◌ {A = Octets} (take n []) []
+none zero = refl
+none (suc n) = refl
 
-pub itself_begins : (octets : Octets) → IsWireForm octets
-    → BeginsAs octets (name_key (labels_of octets))
-itself_begins octets form fits =
-    take_all (length octets - 1) (name_key (labels_of octets)) (omega (arith, key_size octets form))
+-- what begins alike still does if one list is cut short
+pub alike_front : (xs ys : Octets) (n : ℕ) → BeginAlike xs ys → BeginAlike (take n xs) ys
+alike_front xs ys zero h = none (length ys)
+alike_front [] ys (suc n) h = h
+alike_front (x ∷ xs) [] (suc n) h = refl
+alike_front (x ∷ xs) (y ∷ ys) (suc n) h =
+    grind (arith, get_or, (alike_front xs ys n (ap (drop 1) h)))
 
--- a room that begins with a key begins as that key does
-pub begins_in : (known room key : Octets) (count most : ℕ) → take count room ≡ key
-    → length known ≤ length key + 1 → BeginsAs known key → BeginsAs known (take most room)
-begins_in known room key count most is short begins fits =
-    take-take (length known - 1) most room (omega (arith, length-take most room))
-    ∙ sym (take-take (length known - 1) count room
-    (omega (arith, length-take count room, ap length is)))
-    ∙ ap (take (length known - 1)) is ∙ begins short
+alike_shorter : (xs ys us : Octets) → BeginAlike xs (ys ++ us) → BeginAlike xs ys
+alike_shorter xs [] us h = sym (none (length xs))
+alike_shorter [] (y ∷ ys) us h = refl
+alike_shorter (x ∷ xs) (y ∷ ys) us h =
+    grind (arith, get_or, (alike_shorter xs ys us (ap (drop 1) h)))
 
-pub begins_front : (known key : Octets) (most : ℕ) → BeginsAs known key
-    → BeginsAs known (take most key)
-begins_front known key most begins fits =
-    take-take (length known - 1) most key (omega (arith, length-take most key))
-    ∙ begins (omega (arith, length-take most key))
+pub alike_whole : (xs ys : Octets) → length xs ≡ length ys → BeginAlike xs ys → xs ≡ ys
+alike_whole xs ys e h =
+    sym (take_all (length ys) xs (omega (arith, e))) ∙ h
+    ∙ take_all (length xs) ys (omega (arith, e))
+
+pub alike_itself : (xs : Octets) (n : ℕ) → BeginAlike xs (take n xs)
+alike_itself xs zero = sym (none (length xs))
+alike_itself [] (suc n) = refl
+alike_itself (x ∷ xs) (suc n) = grind (arith, (alike_itself xs n))
+
+-- the key of a name begins with the keys of its suffixes
+pub alike_ending : (least : ℕ) (n : DomainName) (key : Octets) → BeginAlike key (name_key n)
+    → BeginAlike key (name_key (ending least n))
+alike_ending least [] key h = h
+alike_ending least (l ∷ n) key h =
+    let shorter = alike_ending least n key (alike_shorter key (name_key n) (ended l) h) in
+    grind (arith, ending)
 
 -- a key that is known is whole
-pub known_whole : (octets known key : Octets) → octets ≡ known → length octets ≡ length key + 1
-    → BeginsAs known key → key ≡ name_key (labels_of octets)
-known_whole octets known key same room begins =
-    sym (take_all (length known - 1) key (omega (arith, room, ap length same)))
-    ∙ begins (omega (arith, room, ap length same))
-    ∙ ap (λ (xs : Octets). name_key (labels_of xs)) (sym same)
+pub known_whole : (octets key : Octets) (n : DomainName) → IsWireForm octets → labels_of octets ≡ n
+    → length octets ≡ length key + 1 → BeginAlike key (name_key n)
+    → key ≡ name_key (labels_of octets)
+known_whole octets key n form is room alike =
+    let size = key_size octets form in
+    alike_whole key (name_key (labels_of octets)) (omega (arith, size, room))
+    (subst (λ m. BeginAlike key (name_key m)) (sym is) alike)

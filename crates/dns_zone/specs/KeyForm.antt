@@ -1,7 +1,6 @@
 -- Keys of names: lists of octets whose order is the canonical order of the names.
-use Rattle.std.specs.Prelude.{◌≡◌, ℕ, ◌+◌, ◌-◌, ◌≤◌, [], ◌∷◌, ◌++◌, length, take, map, nat_lt, if◌then◌else◌}
+use Rattle.std.specs.Prelude.{◌≡◌, ℕ, ◌+◌, [], ◌∷◌, ◌++◌, length, take, map, nat_lt, if◌then◌else◌}
 use Rattle.dns_spec.specs.Names.{Octets, DomainName}
-use Rattle.dns_name.specs.WireForm.{labels_of}
 
 -- An octet of a name in lower case, in which 65 to 90 do not occur. Octets below 65 are raised by
 -- one, so that 0 is free to end a label.
@@ -17,7 +16,6 @@ abbrev pub name_key : DomainName → Octets
 name_key [] = []
 name_key (l ∷ n) = name_key n ++ ended l
 
--- if `key` has room for the key of the name with these octets, it begins with that key
-abbrev pub BeginsAs : Octets → Octets → Type 0
-BeginsAs octets key =
-    length octets ≤ length key + 1 → take (length octets - 1) key ≡ name_key (labels_of octets)
+-- one of two lists of octets begins with the other
+abbrev pub BeginAlike : Octets → Octets → Type 0
+BeginAlike xs ys = take (length ys) xs ≡ take (length xs) ys

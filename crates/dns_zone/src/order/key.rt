@@ -2,14 +2,18 @@
 ghost use Rattle.std.specs.Prelude.{◌≡◌, ◌+◌, ◌<◌, ◌≤◌, [], length};
 ghost use Rattle.dns_spec.specs.Names.{DomainName, folded, at_or_below, below};
 ghost use Rattle.dns_name.specs.WireForm.{labels_of, IsWireForm};
-ghost use Rattle.dns_zone.specs.KeyForm.{raised, ended, name_key, BeginsAs};
+ghost use Rattle.dns_zone.specs.KeyForm.{raised, ended, name_key, BeginAlike};
 ghost use Rattle.dns_zone.specs.OwnerKeysForm.{key_in};
 
+use crate::order::above::shortest_end;
 use crate::store::stored::StoredRecord;
-use dns_name::{Name, NameRef, begins_with, first_label};
+use dns_name::{Name, NameRef, are_equal, begins_with, first_label};
 use std::marker::Model;
 
 const MAX_OCTETS: usize = 255;
+
+// The labels that a name shares with the one before it mostly follow one of its first three labels.
+const NEAR: u32 = 3;
 
 /// The key of a name in lower case. Comparing keys octet by octet gives the canonical order of the
 /// names (RFC 4034 6.1).
@@ -51,16 +55,15 @@ impl Key {
         key
     }
 
-    /// Changes the key of `from` to the key of `name`. If the name is at or below the parent of
-    /// `from`, as most owners are, the parent's labels are not written again.
+    /// Changes the key of `from` to the key of `name`. The labels that both share are not written
+    /// again, if at most three others come before them, as in most names.
     pub(crate) fn move_to(&mut self, from: &NameRef<'_>, name: &NameRef<'_>)
         requires { self.old ≡ name_key from.now }
         ensures { self.new ≡ name_key name.now }
     {
         let octets = name.octets();
-        let known = parent_of(from.octets());
         self.count = octets.len() - 1;
-        put_labels(octets, known, &mut self.octets[..self.count]);
+        put_labels(octets, from, NEAR, &mut self.octets[..self.count]);
     }
 
     /// Its octets, one fewer than in the wire form of the name.
@@ -102,35 +105,22 @@ pub(crate) fn key_at<'a>(keys: &'a [u8], start: u32, of: &StoredRecord) -> &'a [
         .0
 }
 
-// The wire form of a name's parent; of the root, its own.
-fn parent_of(octets: &[u8]) -> &[u8]
-    requires { IsWireForm octets.now }
-    ensures form { IsWireForm result.now }
-    ensures shorter { length result.now ≤ length octets.now }
-    ensures begins { BeginsAs result.now (name_key (labels_of octets.now)) }
-{
-    match first_label(octets) {
-        Some((_, parent)) => parent,
-        None => octets,
-    }
-}
-
-// Writes the key of the name with these octets to `key`, which has the length of the key. If `key`
-// has room for the key of `known`, it begins with it, so that this key is not written again.
-fn put_labels(octets: &[u8], known: &[u8], key: &mut [u8])
+// Writes the key of the name with these octets to `key`, which has the length of the key. `key` and
+// the key of `known` begin alike. The labels that the name shares with `known` are not written
+// again if at most `near` labels come before them. So at most `near` names are compared.
+fn put_labels(octets: &[u8], known: &NameRef<'_>, near: u32, key: &mut [u8])
     requires wire { IsWireForm octets.now }
     requires room { length octets.now ≡ length key.old + 1 }
-    requires begins { BeginsAs known.now key.old }
+    requires alike { BeginAlike key.old (name_key known.now) }
     ensures { key.new ≡ name_key (labels_of octets.now) }
 {
-    if octets == known {
-        return;
-    }
     let Some((label, rest)) = first_label(octets) else {
         return;
     };
     let (front, end) = key.split_at_mut(rest.len() - 1);
-    put_labels(rest, known, front);
+    if near == 0 || !are_equal(shortest_end(known, rest.len()).octets(), rest) {
+        put_labels(rest, known, near.saturating_sub(1), front);
+    }
     put_label(label.octets(), end);
 }
 

@@ -1,6 +1,6 @@
-use Rattle.dns_zone.proofs.Common.{rules, ◌≡◌, ◌-◌, length, take, take_at, ap, ◌∙◌, arith, IsWireForm-wire, labels_of_spelled, labels_of, name_key}
+use Rattle.dns_zone.proofs.Common.{rules, ◌≡◌, ◌-◌, length, take, take_at, ap, subst, ◌∙◌, arith, IsWireForm-wire, labels_of_spelled, name_key, BeginAlike}
 use Rattle.std.proofs.lemmas.List.{length-take, length-take-le}
-use Rattle.dns_zone.proofs.WrittenKeys.{some, key_size, begins_in}
+use Rattle.dns_zone.proofs.WrittenKeys.{some, alike_front, alike_itself}
 use Rattle.dns_zone.proofs.order.key.Key.move_to.Goals as goal
 
 pub overflow_sub-self : goal.overflow_sub-self
@@ -20,19 +20,12 @@ put_labels-requires-clause-room c =
       some _ (IsWireForm-wire _ _ octets.value octets.is_name),
     )
 
-pub parent_of-known-requires : goal.parent_of-known-requires
-parent_of-known-requires c =
-    IsWireForm-wire _ _ c.octets.ensures.value c.octets.ensures.is_name
-
-pub put_labels-requires-clause-begins : goal.put_labels-requires-clause-begins
-put_labels-requires-clause-begins c =
-    let known = c.parent_of-known.ensures in
-    let from = labels_of_spelled _ _ c.octets.ensures.value c.octets.ensures.is_name in
-    let key : take c.self.inside.count c.self.inside.octets
-    ≡ name_key (labels_of c.octets.result.now) = search (rules, from) in
-    let form = IsWireForm-wire _ _ c.octets.ensures.value c.octets.ensures.is_name in
-    begins_in _ c.self.inside.octets _ c.self.inside.count _ key
-    (omega (arith, known.shorter, key_size _ form)) known.begins
+pub put_labels-requires-clause-alike : goal.put_labels-requires-clause-alike
+put_labels-requires-clause-alike c =
+    let octets = c.self.inside.octets in
+    let key : take c.self.inside.count octets ≡ name_key c.args.from.now = search rules in
+    alike_front octets _ _
+    (subst (BeginAlike octets) key (alike_itself octets c.self.inside.count))
 
 pub returns : goal.returns
 returns c =
