@@ -187,16 +187,6 @@ module _ (z : ZoneContents) where
         → at_or_below_cut z m ≡ false
     none_cut b e t = grind (arith, at_cut, IsTopmost, name_key)
 
-    -- if m is a checked name, it is itself the last checked name that is not after m
-    pub found_itself : (c : CheckedName) → IsChecked z (name c) c → c.key.now ≡ name_key m
-        → IsLastUpto z m c
-    found_itself c h e =
-        let is = key_equal (name c) m h.owner.lower low (sym h.key ∙ e) in record {
-          checked = h;
-          upto = equal_upto (name c) m is;
-          last = λ n a g. subst (λ k. is_gt (name_order n k) ≡ false) (sym is) g;
-        }
-
     module _ (c : CheckedName) (h : IsLastUpto z m c) where
       abbrev last : DomainName
       last = owner_of z c
@@ -241,8 +231,14 @@ module _ (z : ZoneContents) where
       pub found_at : last ≡ m → own_in z.records c ≡ at z m
       found_at e = h.checked.owner.own_is ∙ ap (at z) e
 
+-- a name that is checked is at or below a cut if and only if it has a topmost one
+pub checked_cut : (z : ZoneContents) (m : DomainName) (c : CheckedName) → IsChecked z m c
+    → nat_lt 0 c.cut ≡ at_or_below_cut z m
+checked_cut z m c h = sym (at_cut z m h.owner.lower c.cut h.topmost)
+
 -- the results of looking up a target
 pub ruleset found_steps = (
+  checked_cut,
   octets_equal-decides,
   found_name,
   found_at,

@@ -1,5 +1,5 @@
 //! A zone under check: its origin, its records in canonical order, and the names to be checked.
-ghost use Rattle.std.specs.Prelude.{◌≡◌, ◌≤◌, length, ◌&&◌, true, false};
+ghost use Rattle.std.specs.Prelude.{◌≡◌, ◌≤◌, length, ◌&&◌, true, false, IfSome};
 ghost use Rattle.std.specs.Option.{option_map_or};
 ghost use Rattle.std.specs.List.Sorted.{IsNonDecreasingBy};
 ghost use Rattle.dns_spec.specs.Names.{folded, at_or_below};
@@ -8,12 +8,11 @@ ghost use Rattle.dns_spec.specs.Data.{type_cname, target};
 ghost use Rattle.dns_spec.specs.Tree.{is_cut};
 ghost use Rattle.dns_spec.specs.Checks.{at_or_below_cut, lacks_address, has_address};
 ghost use Rattle.dns_zone.specs.KeyForm.{name_key};
-ghost use Rattle.dns_zone.specs.NamesForm.{own_in, owner_of, IsLastUpto};
+ghost use Rattle.dns_zone.specs.NamesForm.{own_in, owner_of, IsChecked, IsLastUpto};
 
 use crate::checks::target::{LastTarget, target};
 use crate::names::{CheckedName, count_upto, is_covered};
-use crate::order::above::{is_at_or_below, name_ends_with};
-use crate::order::key::is_under;
+use crate::order::above::is_at_or_below;
 use crate::order::lookup::has_type;
 use crate::store::stored::StoredRecord;
 use dns_name::NameRef;
@@ -72,6 +71,19 @@ impl<'a> CheckContext<'a> {
         }
     }
 
+    // The checked name that the target is, if it is at an index that is tried first. Needs no key.
+    fn soon_found(&self, target: &NameRef<'_>, last: &mut LastTarget) -> Option<&'a CheckedName<'a>>
+        ensures { IfSome result (λ one. IsChecked self.now target.now one.now) }
+    {
+        'indexes: for index in last.probable_indexes() {
+            if index < self.names.len() && self.name(&self.names[index]) == *target {
+                last.keep_index(index);
+                return Some(&self.names[index]);
+            }
+        }
+        None
+    }
+
     // The last checked name that is not after the target, which is at or below the origin.
     fn last_upto(&self, target: &mut LastTarget) -> &'a CheckedName<'a>
         requires lower { folded target.old ≡ target.old }
@@ -79,33 +91,31 @@ impl<'a> CheckContext<'a> {
         ensures same { target.new ≡ target.old }
         ensures last { IsLastUpto self.now target.old result.now }
     {
-        let names = self.names;
-        let index = target.probable_index();
-        if index < names.len() && names[index].key == target.key() {
-            target.keep_index(index);
-            return &names[index];
-        }
-        let index = count_upto(names, target.key()) - 1;
+        let index = count_upto(self.names, target.key()) - 1;
         target.keep_index(index);
-        &names[index]
+        &self.names[index]
     }
 
     // The records that the target owns, ordered by type, and whether the target is at or below a
     // cut (RFC 1034 4.2). The target is at or below the origin.
     #[tactic(auto, using(crate::proofs::CheckedNames::found_steps))]
-    fn at(&self, target: &mut LastTarget) -> (&'a [StoredRecord], bool)
-        requires lower { folded target.old ≡ target.old }
-        requires inside { at_or_below target.old self.now.origin ≡ true }
-        ensures own { result.0.now ≡ at self.now target.old }
+    fn at(&self, target: &NameRef<'_>, last: &mut LastTarget) -> (&'a [StoredRecord], bool)
+        requires lower { folded target.now ≡ target.now }
+        requires inside { at_or_below target.now self.now.origin ≡ true }
+        ensures own { result.0.now ≡ at self.now target.now }
         ensures by_types { IsNonDecreasingBy (λ (r : ResourceRecord). r.rtype) result.0.now }
-        ensures cut { result.1 ≡ at_or_below_cut self.now target.old }
+        ensures cut { result.1 ≡ at_or_below_cut self.now target.now }
     {
-        let last = self.last_upto(target);
-        let key = target.key();
-        if last.key == key {
-            return (self.own(last), last.cut > 0);
+        if let Some(one) = self.soon_found(target, last) {
+            return (self.own(one), one.cut > 0);
         }
-        (&[], is_covered(last.cut, last.key, key))
+        last.move_to(target);
+        let one = self.last_upto(last);
+        let key = last.key();
+        if one.key == key {
+            return (self.own(one), one.cut > 0);
+        }
+        (&[], is_covered(one.cut, one.key, key))
     }
 
     /// Whether the record's target is in the zone and owns a CNAME (RFC 2181 10.3), and whether it
@@ -147,18 +157,12 @@ impl<'a> CheckContext<'a> {
         ensures lost { result.1 ≡ (at_or_below target.now self.now.origin
             && lacks_address self.now owner.now target.now) }
     {
-        // Most targets outside the zone do not end with the origin's octets; they need no key.
-        if !name_ends_with(target, self.origin) {
+        if !is_at_or_below(target, self.origin) {
             return (false, false);
         }
-        last.move_to(target);
-        if !is_under(last.key(), self.key()) {
-            return (false, false);
-        }
-        let (own, is_under_cut) = self.at(last);
+        let (own, is_under_cut) = self.at(target, last);
         let is_lost = !self.has_address(target, own)
-            && (!is_under_cut
-                || owner_is_cut && name_ends_with(target, owner) && is_at_or_below(target, owner));
+            && (!is_under_cut || owner_is_cut && is_at_or_below(target, owner));
         (has_type(own, RType::CNAME), is_lost)
     }
 

@@ -21,16 +21,17 @@ pub(crate) fn target(entry: &StoredRecord) -> Option<NameRef<'_>>
     Rdata::target(entry.rtype, entry.rdata())
 }
 
-/// The last target that was looked up, its key, and the index at which it was found among the
-/// checked names. Glue often comes right after its cut, one server right after another. So the name
-/// right after the one under check, or after the last target, is tried first.
+/// The last target that was looked up by its key, and indexes among the checked names that are
+/// tried before the next one is looked up. Many names have the same target, and glue often comes
+/// right after its cut, one server right after another. So these are the index of the last target,
+/// and that of the name right after it or, for the first target of a name, right after this name.
 #[derive(Drop)]
 pub(crate) struct LastTarget {
     name: Name,
     key: Key,
-    // The index at which it was found, or may be.
+    // The index of the last target.
     index: usize,
-    // The index that is tried first for the next target.
+    // The other index that is tried first for the next target.
     next: usize,
     // How many names `pass_name` has passed, with the one under check.
     passed: usize,
@@ -62,16 +63,12 @@ impl LastTarget {
         }
     }
 
-    /// Makes this name the last target; its index is then the one that is tried first.
+    /// Makes this name the last target.
     pub(crate) fn move_to(&mut self, name: &NameRef<'_>)
         ensures { self.new ≡ name.now }
     {
-        if self.name.borrowed() == *name {
-            return;
-        }
         self.key.move_to(&self.name.borrowed(), name);
         self.name.copy_from(name);
-        self.index = self.next;
     }
 
     pub(crate) fn key(&self) -> &[u8]
@@ -88,14 +85,12 @@ impl LastTarget {
         self.next = self.passed;
     }
 
-    /// The index among the checked names at which the target was found, or may be: an unverified
-    /// hint.
-    pub(crate) fn probable_index(&self) -> usize {
-        self.index
+    /// The indexes among the checked names at which a target is sought first: unverified hints.
+    pub(crate) fn probable_indexes(&self) -> [usize; 2] {
+        [self.index, self.next]
     }
 
-    /// Keeps the index at which the target was found. The next one is tried first for the next
-    /// target.
+    /// Keeps the index at which a target is, or at which the name before it is.
     pub(crate) fn keep_index(&mut self, index: usize)
         ensures { self.new ≡ self.old }
     {

@@ -1,10 +1,9 @@
 //! Whether names in lower case are at or below others.
-ghost use Rattle.std.specs.Prelude.{◌≡◌, ◌<◌, false};
-ghost use Rattle.std.specs.Bool.{OnFalse};
+ghost use Rattle.std.specs.Prelude.{◌≡◌, ◌<◌};
 ghost use Rattle.dns_spec.specs.Names.{folded, at_or_below};
 ghost use Rattle.dns_zone.specs.NameEnd.{ending};
 
-use dns_name::{NameRef, ends_with};
+use dns_name::NameRef;
 
 pub(crate) fn is_at_or_below(name: &NameRef<'_>, other: &NameRef<'_>) -> bool
     requires name { folded name.now ≡ name.now }
@@ -12,16 +11,6 @@ pub(crate) fn is_at_or_below(name: &NameRef<'_>, other: &NameRef<'_>) -> bool
     ensures { result ≡ at_or_below name.now other.now }
 {
     shortest_end(name, other.octets().len()) == *other
-}
-
-/// Whether the octets of a name end with the octets of another, both in lower case. If not, the
-/// name is not at or below the other.
-pub(crate) fn name_ends_with(name: &NameRef<'_>, other: &NameRef<'_>) -> bool
-    requires name { folded name.now ≡ name.now }
-    requires other { folded other.now ≡ other.now }
-    ensures { OnFalse result (at_or_below name.now other.now ≡ false) }
-{
-    ends_with(name.octets(), other.octets())
 }
 
 /// The shortest suffix of a name that has at least `least` octets on the wire, or the whole name if

@@ -1,7 +1,6 @@
-use Rattle.dns_zone.proofs.Common.{◌≡◌, ◌-◌, ◌<◌, suc, map, List, sym, ap, ◌∙◌, subst, arith, Octets, DomainName, at_or_below, name_order, ZoneContents, octets_equal-decides, Rises, owner_of, IsChecked, IsLastUpto, IsCheckContext, CheckedName}
-use Rattle.dns_zone.proofs.CheckedNames.{upto_parted, upto_some, found_there, found_itself}
+use Rattle.dns_zone.proofs.Common.{◌≡◌, ◌-◌, ◌<◌, suc, map, List, sym, ap, ◌∙◌, subst, arith, Octets, DomainName, at_or_below, name_order, ZoneContents, Rises, owner_of, IsLastUpto, IsCheckContext, CheckedName}
+use Rattle.dns_zone.proofs.CheckedNames.{upto_parted, upto_some, found_there}
 use Rattle.dns_zone.proofs.ReportedNames.{checked_rise}
-use Rattle.dns_spec.proofs.General.Elements.{each_get}
 use Rattle.dns_zone.proofs.checks.context.CheckContext.last_upto.Goals as goal
 use Rattle.dns_zone.proofs.checks.context.CheckContext.last_upto.Goals.{After-count_upto-index}
 
@@ -14,7 +13,7 @@ some : (c : After-count_upto-index) → 0 < c.count_upto-index.result
 some c =
     let are = c.self.invariant.names_are in
     upto_some _ c.self.inside.names.now are.each (rises _ _ _ c.self.invariant) c.args.target.now
-    c.requires.lower c.key-2.result.now c.key-2.ensures c.count_upto-index.result
+    c.requires.lower c.key.result.now c.key.ensures c.count_upto-index.result
     c.count_upto-index.ensures are.all c.self.invariant.lower
     (ap (λ (z : ZoneContents). at_or_below c.args.target.now z.origin) c.self.view_is
     ∙ c.requires.inside)
@@ -23,30 +22,21 @@ pub count_upto-index-requires : goal.count_upto-index-requires
 count_upto-index-requires c =
     upto_parted _ c.self.inside.names.now c.self.invariant.names_are.each
     (rises _ _ _ c.self.invariant) c.args.target.now c.requires.lower
-    c.key-2.result.now c.key-2.ensures
+    c.key.result.now c.key.ensures
 
 pub overflow_sub-index : goal.overflow_sub-index
 overflow_sub-index c =
     let s = some (goal.at.overflow_sub-index c).After-count_upto-index in
     omega (arith, s)
 
-pub bounds-names-index-2 : goal.bounds-names-index-2
-bounds-names-index-2 c =
-    let s = some (goal.at.bounds-names-index-2 c).After-count_upto-index in
+pub bounds-self-inside-index : goal.bounds-self-inside-index
+bounds-self-inside-index c =
+    let s = some (goal.at.bounds-self-inside-index c).After-count_upto-index in
     let bound = c.count_upto-index.ensures.bound in omega (arith, s, bound)
 
 in_zone : (x y : ZoneContents) (n : DomainName) (d : CheckedName) → x ≡ y → IsLastUpto x n d
     → IsLastUpto y n d
 in_zone x y n d e h = subst (λ z. IsLastUpto z n d) e h
-
-pub returns-then-eq-clause-last : goal.returns-then-eq-clause-last
-returns-then-eq-clause-last c =
-    in_zone _ _ _ _ c.self.view_is
-    (found_itself _ c.args.target.now c.requires.lower _
-    (each_get (λ d. IsChecked _ (owner_of _ d) d) c.self.inside.names.now
-    c.probable_index-index.result _
-    c.self.invariant.names_are.each c.if-index-names.true)
-    ((octets_equal-decides _ c.key.result.now).0 (sym c.eq.ensures ∙ c.if-eq.true) ∙ c.key.ensures))
 
 pub returns-clause-last : goal.returns-clause-last
 returns-clause-last c =
@@ -56,5 +46,5 @@ returns-clause-last c =
     in_zone _ _ _ _ c.self.view_is
     (found_there _ c.self.inside.names.now c.self.invariant.names_are.each
     (rises _ _ _ c.self.invariant) c.args.target.now c.requires.lower
-    c.key-2.result.now c.key-2.ensures k c.count_upto-index.ensures
+    c.key.result.now c.key.ensures k c.count_upto-index.ensures
     c.self.invariant.names_are.all (k - 1) next _)
