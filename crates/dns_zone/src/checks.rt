@@ -109,6 +109,10 @@ fn add_failed(owner: u32, failed: &[bool], found: &mut Vec<CheckFault>) -> Resul
     requires { length failed.now ≤ 254 }
     ensures { OnOk result (found.new.items ≡ found.old.items ++ failed_from owner 1 failed.now) }
 {
+    // A fast path: most names fail no check.
+    if failed == [false; 15].as_slice() {
+        return Ok(());
+    }
     let mut rest = failed;
     let mut code = 1;
     'checks: while let Some((fails, others)) = rest.split_first() {

@@ -5,7 +5,7 @@ use Rattle.dns_zone.proofs.checks.add_failed.Given as goal
 abbrev pub invariant-checks : goal.invariant-checks
 invariant-checks l = record {
   all : l.found.items ++ failed_from l.owner l.code l.rest
-      ≡ l.initial.found.items ++ failed_from l.owner 1 l.failed;
+      ≡ l.initial.found.items ++ failed_from l.owner 1 l.fn.failed;
   codes : l.code + length l.rest ≤ 255;
 }
 
