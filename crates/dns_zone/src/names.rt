@@ -15,7 +15,7 @@ use crate::order::key::{is_below, key_at};
 use crate::order::lookup::{count_in_front, has_type};
 use crate::order::owner_keys::OwnerKeys;
 use crate::store::stored::StoredRecord;
-use dns_name::NameRef;
+use dns_name::{NameRef, begins_with};
 use dns_rdata::RType;
 use std::alloc::{AllocError, Global};
 
@@ -108,7 +108,7 @@ pub(crate) fn is_covered(cut: usize, last: &[u8], key: &[u8]) -> bool
     requires { cut ≤ length last.now }
     ensures { result ≡ is_covered cut last.now key.now }
 {
-    cut > 0 && key.starts_with(&last[..cut])
+    cut > 0 && begins_with(key, &last[..cut])
 }
 
 /// The number of names that are not after the name with this key.
