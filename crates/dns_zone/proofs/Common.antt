@@ -34,7 +34,7 @@ pub use Rattle.dns_spec.specs.Tree.{closest_encloser, without_first}
 pub use Rattle.dns_zone.specs.EntryForm.{IsEntry, data_in, owner_in}
 pub use Rattle.dns_zone.specs.KeyForm.{BeginAlike, ended, name_key, raised}
 pub use Rattle.dns_zone.specs.OwnerKeysForm.{AreKeyed, key_in}
-pub use Rattle.dns_zone.specs.SortKeyForm.{AreApart, AreFronts, AreSortKeys, AreSorted, IsSortKey, no_record, own_order, sorted_key, sort_key_order, placed}
+pub use Rattle.dns_zone.specs.SortKeyForm.{AreApart, AreFronts, AreSortKeys, AreSorted, IsSortKey, no_record, own_order, same_sort_key, sorted_key, sort_key_order, placed}
 pub use Rattle.dns_zone.specs.LabelKey.{IsEight, IsKey}
 unfoldable pub use Rattle.dns_zone.specs.LabelKey.{key_of}
 pub use Rattle.dns_zone.specs.NameEnd.{ending}

@@ -1,14 +1,15 @@
 -- Sorted sort keys without those of duplicates are those of the records in canonical order.
-use Rattle.dns_zone.proofs.Common.{◌≡◌, ℕ, zero, suc, ◌<◌, ◌≤◌, inl, inr, List, [], ◌∷◌, All, AllByRecursion, Ordering, name_key, length-map, get_or-map, ap₂, recursion_from_All, All-weaker, length, map, get_or, refl, sym, ap, ◌∙◌, arith, true, is_eq, Less, Equal, subst, get_or_default, cases_order, tied_itself, IsPermutation, IsSorted, Octets, ResourceRecord, IsReadRecord, LowerOwner, record_order, record_order_total, record_ties, one_record, records_equal, distinct, sort_by, rises_canonical, Among, Rises, among_contains, among_distinct, among_sort, distinct_among, sort_among, same_risen, AreApart, AreSortKeys, AreSorted, IsSortKey, no_record, sorted_key, sort_key_order, placed, SortKey}
+use Rattle.dns_zone.proofs.Common.{◌≡◌, ℕ, zero, suc, ◌<◌, ◌≤◌, inl, inr, List, [], ◌∷◌, All, AllByRecursion, Ordering, name_key, length-map, get_or-map, ap₂, recursion_from_All, All-weaker, length, map, get_or, refl, sym, ap, ◌∙◌, arith, true, is_eq, Less, Equal, subst, get_or_default, cases_order, tied_itself, IsPermutation, IsSorted, Octets, ResourceRecord, IsReadRecord, LowerOwner, record_order, record_order_total, record_ties, one_record, records_equal, distinct, sort_by, rises_canonical, Among, Rises, among_contains, among_distinct, among_sort, distinct_among, sort_among, same_risen, AreApart, AreSortKeys, AreSorted, IsSortKey, no_record, own_order, same_sort_key, sorted_key, sort_key_order, placed, SortKey, Bool, false, ◌==◌, ◌&&◌, nat_cmp, slice_cmp, ordering_then, nat_ties}
 use Rattle.dns_zone.specs.SortKeyForm.{no_sort_key}
 use Rattle.dns_zone.proofs.SortKeyOrder.{sort_key_order_total, placed_order}
 use Rattle.dns_spec.proofs.General.Elements.{each_map, each_both, each_at, among_get, among_mapped}
+use Rattle.dns_spec.proofs.General.Orderings.{then_ties}
 use Rattle.std.proofs.lemmas.List.Filters.{All-dedup}
 use Rattle.std.proofs.lemmas.List.Kept.{Any-dedup, IsStrictlySortedBy-dedup}
 use Rattle.std.proofs.lemmas.List.Sorted.{All-permutation, Contains-permutation, length_permutation}
 use Rattle.std.specs.Cmp.{eq_by_cmp_equiv}
 use Rattle.std.specs.Ordering.{eq_by_cmp}
-use Rattle.std.specs.List.{dedup, Contains}
+use Rattle.std.specs.List.{dedup, dedup_from, Contains}
 use Rattle.std.specs.List.Sorted.{IsStrictlySortedBy}
 
 -- each element of a rising list is less than those after it
@@ -24,6 +25,11 @@ rises_far (x ∷ xs) r (suc i) (suc j) d l m =
 less_itself : (r : ResourceRecord) → record_order r r ≡ Less → ⊥
 less_itself r h = grind (arith, tied_itself, record_order_total)
 
+tested_twice : (a b c : Bool) → (a && (b && (a && (b && c)))) ≡ (a && (b && c))
+tested_twice true true c = refl
+tested_twice true false c = refl
+tested_twice false b c = refl
+
 module _ (origin keys : Octets) (rs : List ResourceRecord) (first : ResourceRecord)
     (low : All IsReadRecord rs) where
   abbrev f : SortKey → ResourceRecord
@@ -38,6 +44,25 @@ module _ (origin keys : Octets) (rs : List ResourceRecord) (first : ResourceReco
   order : (p q : SortKey) → IsSortKey origin keys rs p → IsSortKey origin keys rs q
       → R p q ≡ record_order (f p) (f q)
   order p q h k = placed_order origin keys rs first p q h k (lower p h) (lower q k)
+
+  -- sort keys with the same numbers and equal records are equal in their order
+  same : (p q : SortKey) → IsSortKey origin keys rs p → IsSortKey origin keys rs q
+      → same_sort_key rs first p q ≡ eq_by_cmp R p q
+  same p q h k =
+      let a = p.front == q.front in
+      let b = p.next == q.next in
+      let own = ordering_then (slice_cmp nat_cmp (sorted_key keys rs first p)
+      (sorted_key keys rs first q)) (own_order (f p) (f q)) in
+      let parts : eq_by_cmp R p q ≡ (a && (b && is_eq own)) = grind (arith, then_ties, nat_ties) in
+      ap (λ c. a && (b && c)) (record_ties (f p) (f q) ∙ ap is_eq (sym (order p q h k)) ∙ parts)
+      ∙ tested_twice a b (is_eq own) ∙ sym parts
+
+  kept_alike : (p : SortKey) (qs : List SortKey) → IsSortKey origin keys rs p
+      → AllByRecursion (IsSortKey origin keys rs) qs
+      → dedup_from (same_sort_key rs first) p qs ≡ dedup_from (eq_by_cmp R) p qs
+  kept_alike p [] h e = refl
+  kept_alike p (q ∷ qs) h e =
+      grind (arith, same q p e.0 h, kept_alike p qs h e.1, kept_alike q qs e.0 e.1)
 
   rises : (ps : List SortKey) → AllByRecursion (IsSortKey origin keys rs) ps
       → IsStrictlySortedBy R ps → Rises record_order (map f ps)
@@ -128,17 +153,27 @@ module _ (origin keys : Octets) (rs : List ResourceRecord) (first : ResourceReco
             less_itself (f (get_or ds b d))
             (sym (ap₂ record_order (left ∙ one) right) ∙ less)
 
-    pub are_sorted : length ds ≤ length qs → AreSorted keys rs ds
-    are_sorted short =
+    pub are_sorted : (es : List SortKey) → es ≡ ds → length es ≤ length qs → AreSorted keys rs es
+    are_sorted es is short =
         let count = all.count in
         let size = length_permutation ps qs moved in
-        record {
+        subst (AreSorted keys rs) (sym is) (record {
           inside = All-weaker (IsSortKey origin keys rs) (λ p. p.at < length rs) (λ p h. h.inside) ds
               each;
           apart = apart;
-          fewer = omega (arith, short, count, size);
+          fewer = omega (arith, short, count, size, ap length is);
           key = All-weaker (IsSortKey origin keys rs)
               (λ p. sorted_key keys rs no_record p ≡ name_key (placed rs no_record p).owner)
               (λ p h. h.key no_record) ds each;
           whole = same_first ds (recursion_from_All (IsSortKey origin keys rs) ds each) ∙ whole;
-        }
+        })
+
+    -- the sort keys without those that are the same as the last one kept
+    pub are_kept : (es : List SortKey) → es ≡ dedup (same_sort_key rs first) qs
+        → length es ≤ length qs → AreSorted keys rs es
+    are_kept es is = are_sorted es (is ∙ alike qs (recursion_from_All _ qs each_sorted))
+      where
+        alike : (xs : List SortKey) → AllByRecursion (IsSortKey origin keys rs) xs
+            → dedup (same_sort_key rs first) xs ≡ dedup (eq_by_cmp R) xs
+        alike [] e = refl
+        alike (x ∷ xs) e = kept_alike x xs e.0 e.1

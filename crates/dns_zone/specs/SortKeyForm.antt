@@ -1,5 +1,5 @@
 -- Sort keys of records: their order, and what is known of them.
-use Rattle.std.specs.Prelude.{◌≡◌, ℕ, ◌+◌, ◌-◌, ◌^◌, ◌<◌, ◌≤◌, List, [], All, length, take, drop, get_or, map}
+use Rattle.std.specs.Prelude.{◌≡◌, ℕ, ◌+◌, ◌-◌, ◌^◌, ◌<◌, ◌≤◌, ◌==◌, ◌&&◌, Bool, List, [], All, length, take, drop, get_or, map}
 use Rattle.std.specs.Ordering.{ordering_then, nat_cmp}
 use Rattle.std.specs.declared.cmp.Ordering.{Ordering}
 use Rattle.std.specs.declared.cmp.Ordering.TheVariants.{Less, Equal, Greater}
@@ -34,6 +34,11 @@ sort_key_order keys rs first p q =
     ordering_then (nat_cmp p.front q.front) (ordering_then (nat_cmp p.next q.next)
     (ordering_then (slice_cmp nat_cmp (sorted_key keys rs first p) (sorted_key keys rs first q))
     (own_order (placed rs first p) (placed rs first q))))
+
+-- the sort keys have the same numbers, and equal records
+abbrev pub same_sort_key : List ResourceRecord → ResourceRecord → SortKey → SortKey → Bool
+same_sort_key rs first p q = p.front == q.front
+    && (p.next == q.next && records_equal (placed rs first p) (placed rs first q))
 
 -- stands for a sort key that does not exist
 abbrev pub no_sort_key : SortKey

@@ -62,7 +62,7 @@ fn sort_distinct(
     let kept = order.keep_rising(sort_keys.as_mut_slice());
     if kept < sort_keys.len() {
         order.sort(sort_keys, kept)?;
-        sort_keys.dedup_by(|next, one| order.compare(next, one).is_eq());
+        sort_keys.dedup_by(|next, one| order.are_same(next, one));
     }
     Ok(())
 }

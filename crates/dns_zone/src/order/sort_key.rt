@@ -5,7 +5,7 @@ ghost use Rattle.std.specs.Cmp.Lexicographic.{slice_cmp};
 ghost use Rattle.std.specs.List.Sorted.{IsPermutation, IsSorted};
 ghost use Rattle.std.specs.Ordering.{nat_cmp, ordering_then};
 ghost use Rattle.dns_zone.specs.LabelKey.{IsEight};
-ghost use Rattle.dns_zone.specs.SortKeyForm.{own_order, placed, sorted_key, no_sort_key, sort_key_order, AreFronts, RiseUpTo};
+ghost use Rattle.dns_zone.specs.SortKeyForm.{own_order, placed, sorted_key, no_sort_key, same_sort_key, sort_key_order, AreFronts, RiseUpTo};
 
 use crate::order::key::key_at;
 use crate::order::own_order;
@@ -204,6 +204,15 @@ impl<'a> Order<'a> {
             return Ordering::Equal;
         }
         key_at(self.keys, one.start, left).cmp(key_at(self.keys, other.start, right))
+    }
+
+    /// Whether two sort keys have the same numbers and equal records. Costs less than `compare`.
+    pub(crate) fn are_same(&self, one: &SortKey, other: &SortKey) -> bool
+        ensures { result ≡ same_sort_key self.now.records.now self.now.first.now one.now other.now }
+    {
+        one.front == other.front
+            && one.next == other.next
+            && self.record(one).is_same(self.record(other))
     }
 
     fn record(&self, sort_key: &SortKey) -> &'a StoredRecord

@@ -2,11 +2,12 @@
 ghost use Rattle.std.specs.Prelude.{◌≡◌, IfOk};
 ghost use Rattle.dns_spec.specs.Names.{folded};
 ghost use Rattle.dns_spec.specs.Data.{Valid, lower_case};
+ghost use Rattle.dns_spec.specs.Records.{records_equal};
 ghost use Rattle.dns_spec.specs.ZonePrinted.{IsReadRecord};
 
 use crate::store::octets::RecordOctets;
 use dns_master::Record;
-use dns_name::NameRef;
+use dns_name::{NameRef, are_equal};
 use dns_rdata::RType;
 use std::alloc::{AllocError, Global};
 use std::marker::Model;
@@ -70,5 +71,15 @@ impl StoredRecord {
     {
         let count = self.owner_octets as usize;
         self.octets.borrowed().split_at(count).1
+    }
+
+    /// Whether two records are the same, as in a set (RFC 2181 5).
+    pub(crate) fn is_same(&self, other: &StoredRecord) -> bool
+        ensures { result ≡ records_equal self.now other.now }
+    {
+        self.rtype == other.rtype
+            && are_equal(self.rdata(), other.rdata())
+            && self.owner() == other.owner()
+            && self.ttl == other.ttl
     }
 }

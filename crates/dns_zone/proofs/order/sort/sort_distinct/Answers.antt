@@ -1,10 +1,9 @@
-use Rattle.dns_zone.proofs.Common.{rules, arith, ℕ, List, SortKey, take, take_at, drop, ◌++◌, sym, subst, length, ◌≤◌, ◌≡◌, ◌∙◌, IsPermutation, length_permutation, IsPermutation-trans, sort_key_order, AreSorted}
-use Rattle.dns_zone.proofs.SortedKeys.{are_sorted}
+use Rattle.dns_zone.proofs.Common.{rules, arith, ℕ, List, SortKey, take, take_at, drop, ◌++◌, sym, subst, length, ◌≤◌, ◌≡◌, ◌∙◌, IsPermutation, length_permutation, IsPermutation-trans, same_sort_key, sort_key_order, ap}
+use Rattle.dns_zone.proofs.SortedKeys.{are_kept, are_sorted}
 use Rattle.dns_zone.proofs.SortKeyOrder.{sort_key_order_total}
 use Rattle.dns_zone.proofs.RisingKeys.{rising_sorted, rising_distinct}
 use Rattle.dns_zone.specs.SortKeyForm.{RiseUpTo}
 use Rattle.std.proofs.lemmas.Fn.{dedup_same}
-use Rattle.std.specs.Ordering.{eq_by_cmp}
 use Rattle.dns_zone.proofs.order.sort.sort_distinct.Goals as goal
 
 -- what the list holds after the sort keys that rise were moved
@@ -24,18 +23,16 @@ returns-in_ok-sort c = λ o all.
     let moved : IsPermutation old_items ps = subst (λ qs. IsPermutation qs ps)
     c.as_mut_slice.ensures.value c.keep_rising-kept.ensures.moved in
     let items = kept_items old_items ps c.args.sort_keys.now.len c.args.sort_keys.now.ok.0 moved in
-    let is = dedup_same _ (eq_by_cmp (sort_key_order keys rs first)) _
+    let is = dedup_same _ (same_sort_key rs first) _
     (λ x y b f' x' y' k. search rules) _ _ c.dedup_by.ensures.filtered in
     let bound = c.dedup_by.ensures.bound in
     let new = c.dedup_by.new.self.ok.0 in
     let old = c.sort.new.sort_keys.ok.0 in
     let fewer : length c.dedup_by.new.self.items ≤ length c.sort.new.sort_keys.items =
     omega (arith, bound, new, old) in
-    subst (AreSorted keys rs) (sym is)
-    (are_sorted o keys rs first c.requires _ _ all
+    are_kept o keys rs first c.requires _ _ all
     (IsPermutation-trans _ _ _ moved (subst (λ ps. IsPermutation ps c.sort.new.sort_keys.items) items
-    c.in_ok-sort.ensures.0)) c.in_ok-sort.ensures.1
-    (subst (λ ps. length ps ≤ length c.sort.new.sort_keys.items) is fewer))
+    c.in_ok-sort.ensures.0)) c.in_ok-sort.ensures.1 _ is fewer
 
 pub returns-else-kept-len : goal.returns-else-kept-len
 returns-else-kept-len c = λ o all.
@@ -56,6 +53,6 @@ returns-else-kept-len c = λ o all.
     c.keep_rising-kept.ensures.rising k (omega (arith, h, none, len, ok, size)) in
     let total = sort_key_order_total keys rs first in
     let distinct = rising_distinct R total ps rising in
-    subst (AreSorted keys rs) (distinct ∙ sym (kept_items old_items ps c.args.sort_keys.now.len ok moved))
-    (are_sorted o keys rs first c.requires _ _ all moved (rising_sorted R total ps rising)
-    (subst (λ qs. length qs ≤ length ps) (sym distinct) (omega arith)))
+    let same = kept_items old_items ps c.args.sort_keys.now.len ok moved in
+    are_sorted o keys rs first c.requires _ _ all moved (rising_sorted R total ps rising) _
+    (same ∙ sym distinct) (omega (arith, ap length same))
