@@ -1,5 +1,5 @@
 -- Re-exports the names that most proofs use. Declares nothing.
-pub use Rattle.dns_spec.proofs.Common.{Appends, Appends-nil, Appends-trans, Bool, Consumes, Consumes-trans, DnsMessage, DomainName, Err, Fault, FileFault, IfErr, IfSome, IsAtEnd, IsErrAnd, Keeps, List, MatchOption, Meaning, MessageQuestion, MessageRecord, None, Octets, Ok, OnFalse, OnTrue, Option, Options, PrintsMessage, Report, ResourceRecord, Result, Some, ZoneContents, [], add-one, agree_below_at, ap, append-nil, append_assoc, ap₂, are_messages, arith, cases_Bool, cases_lt, codes, decimal, digit_char, digit_value, distinct, drop, drop-cons, drop_all, ended_lines, eqb-false, eqb-true, false, false≢true, fault_at, fault_code, fault_report, filter, filter-append, flat_map, flat_map-append, folded, get_or, hex_text, if◌then◌else◌, inl, inr, is_ascii_hexdigit, is_some, le-leb, le-ltb, length, length-append, length-drop, length-take-le, line_answers, line_ends, line_message, list_all-append, lt-leb, lt-ltb, ltb-false, ltb-true, message_answer, name_text, nat_lt, ne_eqb, octets16, option_map, passing, question_line, records, records_equal, refl, report_of_faults, report_of_meaning, rules, section_line, set, subst, suc, sym, take, take-append-add, take-append-drop, take-append-le, take_all, take_more, true, type_text, zero, zone_of, zone_report, zone_serial, ℕ, ⊤, ◌%◌, ◌&&◌, ◌*◌, ◌++◌, ◌+◌, ◌-◌, ◌/◌, ◌<◌, ◌==◌, ◌^◌, ◌∙◌, ◌∷◌, ◌≡◌, ◌≢◌, ◌≤◌, ◌⊎◌}
+pub use Rattle.dns_spec.proofs.Common.{Appends, Appends-nil, Appends-trans, Bool, Consumes, Consumes-trans, DnsMessage, DomainName, Err, Fault, FileFault, IfErr, IfSome, IsAtEnd, IsErrAnd, Keeps, List, MatchOption, Meaning, MessageQuestion, MessageRecord, None, Octets, Ok, OnFalse, OnTrue, Option, Options, PrintsMessage, Report, ResourceRecord, Result, Some, ZoneContents, [], add-one, agree_below_at, ap, append-nil, append_assoc, ap₂, are_messages, arith, cases_Bool, cases_lt, codes, decimal, digit_char, digit_value, distinct, drop, drop-cons, drop_all, ended_lines, eq-eqb, eqb-false, eqb-true, false, false≢true, fault_at, fault_code, fault_report, filter, filter-append, flat_map, flat_map-append, folded, get_or, hex_text, if◌then◌else◌, inl, inr, is_ascii_hexdigit, is_some, le-leb, le-ltb, length, length-append, length-drop, length-take, length-take-le, line_answers, line_ends, line_message, list_all-append, lt-leb, lt-ltb, ltb-false, ltb-true, message_answer, name_text, nat_lt, ne_eqb, octets16, option_map, passing, question_line, records, records_equal, refl, report_of_faults, report_of_meaning, rules, section_line, set, subst, suc, sym, take, take-append-add, take-append-drop, take-append-le, take_all, take_more, true, type_text, zero, zone_of, zone_report, zone_serial, ℕ, ⊤, ◌%◌, ◌&&◌, ◌*◌, ◌++◌, ◌+◌, ◌-◌, ◌/◌, ◌<◌, ◌==◌, ◌^◌, ◌∙◌, ◌∷◌, ◌≡◌, ◌≢◌, ◌≤◌, ◌⊎◌}
 unfoldable pub use Rattle.dns_spec.proofs.Common.{data_text, faults, hex_octets, lines}
 pub use Rattle.std.proofs.Common.{slice_index}
 pub use Rattle.std.specs.Prelude.{IfNone, IsErr}
@@ -20,8 +20,7 @@ pub use Rattle.dns_spec.specs.Report.{bare_name_text, failing, line_report, load
 pub use Rattle.dns_tools.specs.Checked.{CheckedAs, ReportedAs, ReportsOn, WrittenAs, options_of}
 pub use Rattle.dns_tools.specs.ExchangeForm.{kept_of, reply_of}
 pub use Rattle.dns_tools.specs.Exchanges.{Begun, Grows, HasAnsweredEnded, HasAnsweredLines, HasBegunAnswers, IsFresh, IsInput, KeepsUp, Kept, LinesAnswered, Progress}
-pub use Rattle.dns_tools.specs.FirstLine.{HasReadFront, IsFront, KeepsFirst, ReadsFirst}
-pub use Rattle.dns_tools.specs.KeptLine.{KeepsOctet, KeptLine, kept_line, kept_message, no_line}
+pub use Rattle.dns_tools.specs.FirstLine.{HasReadFront, IsFront, KeepsFirst, ReadsFirst, kept_line}
 pub use Rattle.dns_tools.specs.Load.{LoadedAs, refusal_report}
 pub use Rattle.dns_tools.specs.Parts.{part_text, parts_text}
 pub use Rattle.dns_tools.specs.Printed.{PrintedAs}

@@ -1,6 +1,6 @@
 -- What is kept of a line, octet by octet, and which message it decides.
-use Rattle.dns_tools.proofs.Common.{◌≡◌, ◌≢◌, ℕ, ◌+◌, ◌<◌, ◌≤◌, ◌==◌, if◌then◌else◌, nat_lt, Bool, true, false, inl, inr, List, [], ◌∷◌, ◌++◌, length, take, drop, get_or, suc, Option, Some, None, refl, sym, ap, ◌∙◌, subst, arith, append_assoc, append-nil, length-append, filter, cases_lt, le-leb, lt-leb, lt-ltb, le-ltb, ltb-true, ltb-false, ne_eqb, take_all, take-append-le, take-append-drop, length-take-le, drop-cons, filter-append, Consumes, IsAtEnd, Octets, hex_octets, ⊤, ◌-◌, MatchOption, Ok, IfSome, IfNone, IsErr, OnTrue, OnFalse, decode_of, Consumes-trans, begin_line, lines, line_ends, line_message, first_of, KeptLine, kept_line, kept_message, KeepsOctet, IsFront, KeepsFirst, ReadsFirst}
-use Rattle.dns_tools.proofs.LineDigits.{line_read, line_refused}
+use Rattle.dns_tools.proofs.Common.{◌≡◌, ◌≢◌, ℕ, ◌+◌, ◌<◌, ◌≤◌, ◌==◌, if◌then◌else◌, Bool, true, false, inl, inr, List, [], ◌∷◌, ◌++◌, length, take, drop, get_or, suc, Option, Some, None, refl, sym, ap, ◌∙◌, subst, arith, append_assoc, append-nil, length-append, filter, cases_lt, le-leb, lt-leb, ne_eqb, eq-eqb, eqb-true, false≢true, ◌%◌, take_all, take-append-le, take-append-drop, length-take, length-take-le, drop-cons, filter-append, Consumes, IsAtEnd, Octets, hex_octets, ⊤, ◌-◌, MatchOption, OnTrue, OnFalse, Consumes-trans, begin_line, lines, line_ends, line_message, first_of, kept_line, IsFront, KeepsFirst, ReadsFirst}
+use Rattle.dns_tools.proofs.LineDigits.{odd_is_none}
 
 pub ends_append : (x y : Octets) → line_ends (x ++ y) ≡ line_ends x + line_ends y
 ends_append x y = grind (arith, filter-append, length-append, filter)
@@ -33,70 +33,38 @@ pub lines_nil : lines [] ≡ []
 unfolding lines
 lines_nil = refl
 
-kept_front : (front : Octets) → length (take 131070 front) < 131070 → length front < 131070
-kept_front front h = elim (cases_lt (length front) 131070) [
-  | inl small ↦ small
-  | inr large ↦ absurd (omega (arith, h, length-take-le 131070 front large))
-]
+-- one more octet of a line is kept, or none more
+pub kept_room : (l : Octets) (o : ℕ) → length l < 131071 → l ++ o ∷ [] ≡ kept_line (l ++ o ∷ [])
+kept_room l o room =
+    sym (take_all 131071 (l ++ o ∷ []) (omega (arith, room, length-append l (o ∷ []))))
 
-keeps_line : (front line : Octets) (o : ℕ) → line ≡ take 131070 front
-    → length line < 131070 → line ++ o ∷ [] ≡ take 131070 (front ++ o ∷ [])
-keeps_line front line o e h =
-    let small = kept_front front (subst (λ l. length l < 131070) e h) in
-    ap (λ l. l ++ o ∷ []) (e ∙ take_all 131070 front (omega (arith, small)))
-    ∙ sym (take_all 131070 (front ++ o ∷ []) (omega (arith, small, length-append front (o ∷ []))))
+pub kept_full : (l : Octets) (o : ℕ) → length l ≡ 131071 → l ≡ kept_line (l ++ o ∷ [])
+kept_full l o full =
+    sym (take-append-le 131071 l (o ∷ []) (omega (arith, full))
+    ∙ take_all 131071 l (omega (arith, full)))
 
-keeps_flag : (front line : Octets) (o : ℕ) → line ≡ take 131070 front
-    → length line < 131070 → nat_lt 131070 (length front) ≡ nat_lt 131070 (length (front ++ o ∷ []))
-keeps_flag front line o e h =
-    let small = kept_front front (subst (λ l. length l < 131070) e h) in
-    le-ltb 131070 (length front) (omega (arith, small))
-    ∙ sym (le-ltb 131070
-    (length (front ++ o ∷ [])) (omega (arith, small, length-append front (o ∷ []))))
-
-full_front : (front line : Octets)
-    → line ≡ take 131070 front → 131070 ≤ length line → 131070 ≤ length front
-full_front front line e h = elim (cases_lt (length front) 131070) [
-  | inl small ↦
-      absurd (omega (arith, small, h, ap length (e ∙ take_all 131070 front (omega (arith, small)))))
-  | inr large ↦ large
-]
-
--- one more octet of a line
-pub keeps_kept : (front : Octets) (k n : KeptLine) (o : ℕ)
-    → k ≡ kept_line front → KeepsOctet k n o → n ≡ kept_line (front ++ o ∷ [])
-keeps_kept front k n o e keeps = λ i. record { front = front_is i; is_overlong = flag_is i }
-  where
-    kept : k.front ≡ take 131070 front
-    kept = ap (λ l. l.front) e
-
-    front_is : n.front ≡ take 131070 (front ++ o ∷ [])
-    front_is = elim (cases_lt (length k.front) 131070) [
-      | inl room ↦ (keeps.room room).0 ∙ keeps_line front k.front o kept room
-      | inr full ↦ (keeps.full full).0
-          ∙ kept ∙ sym (take-append-le 131070 front (o ∷ []) (full_front front k.front kept full))
+pub keeps_kept : (front k n : Octets) (o : ℕ)
+    → k ≡ kept_line front → n ≡ kept_line (k ++ o ∷ []) → n ≡ kept_line (front ++ o ∷ [])
+keeps_kept front k n o e keeps =
+    keeps ∙ ap (λ l. kept_line (l ++ o ∷ [])) e ∙ elim (cases_lt (length front) 131071) [
+      | inl small ↦ ap (λ l. kept_line (l ++ o ∷ [])) (take_all 131071 front (omega (arith, small)))
+      | inr large ↦ sym (kept_full (kept_line front) o (length-take-le 131071 front large))
+          ∙ sym (take-append-le 131071 front (o ∷ []) large)
     ]
 
-    flag_is : n.is_overlong ≡ nat_lt 131070 (length (front ++ o ∷ []))
-    flag_is = elim (cases_lt (length k.front) 131070) [
-      | inl room ↦
-          (keeps.room room).1 ∙ ap (λ l. l.is_overlong) e ∙ keeps_flag front k.front o kept room
-      | inr full ↦ (keeps.full full).1
-          ∙ sym (lt-ltb 131070 (length (front ++ o ∷ []))
-          (omega (arith, full_front front k.front kept full, length-append front (o ∷ []))))
-    ]
+too_long : (x : Octets) → 131070 < length x → line_message x ≡ None
+too_long x long = rw (lt-leb (length x) 131070 long) refl
 
 -- what is kept of a line decides its message
-message_says : (front : Octets) → kept_message (kept_line front) ≡ line_message front
-message_says front = elim (cases_lt 131070 (length front)) [
-  | inl long ↦ rw (lt-ltb 131070 (length front) long, lt-leb (length front) 131070 long) refl
-  | inr short ↦ rw (le-ltb 131070 (length front) short, le-leb (length front) 131070 short)
-      (ap hex_octets (take_all 131070 front short))
+pub kept_says : (front : Octets) → hex_octets (kept_line front) ≡ line_message front
+kept_says front = elim (cases_lt 131070 (length front)) [
+  | inl long ↦
+      odd_is_none (kept_line front)
+      (ap (λ n. n % 2) (length-take-le 131071 front (omega (arith, long))))
+      ∙ sym (too_long front long)
+  | inr short ↦ rw (le-leb (length front) 131070 short)
+      (ap hex_octets (take_all 131071 front (omega (arith, short))))
 ]
-
-pub kept_says : (front : Octets) (k : KeptLine)
-    → k ≡ kept_line front → kept_message k ≡ line_message front
-kept_says front k e = ap kept_message e ∙ message_says front
 
 -- The first line of an input.
 
@@ -118,13 +86,13 @@ unfolding lines
 first_ended y = refl
 
 -- if what follows adds nothing to the line, what is kept decides the message
-first_goes_on : (front y : Octets) (l : KeptLine) → line_ends front ≡ 0 → l ≡ kept_line front
-    → first_of (lines y) ≡ [] → kept_message l ≡ line_message (first_of (lines (front ++ y)))
+first_goes_on : (front y l : Octets) → line_ends front ≡ 0 → l ≡ kept_line front
+    → first_of (lines y) ≡ [] → hex_octets l ≡ line_message (first_of (lines (front ++ y)))
 first_goes_on front y l unended kept over =
     grind (arith, kept_says, line_message, first_line, append-nil)
 
 -- an LF ends the line
-pub ended_first : (x octets : Octets) (i : ℕ) (l : KeptLine)
+pub ended_first : (x octets : Octets) (i : ℕ) (l : Octets)
     → i < length octets → get_or octets i 0 ≡ 10 → line_ends (x ++ take i octets) ≡ 0
     → l ≡ kept_line (x ++ take i octets) → KeepsFirst (x ++ octets) l
 ended_first x octets i l here is unended kept = λ y.
@@ -140,25 +108,35 @@ ended_first x octets i l here is unended kept = λ y.
     (drop (suc i) octets ++ y)) ∙ ap (λ z. line_message (first_of (lines z))) (sym whole)
 
 -- the line is too long
-pub overlong_first : (x : Octets) (l : KeptLine)
-    → line_ends x ≡ 0 → l ≡ kept_line x → l.is_overlong ≡ true → KeepsFirst x l
-overlong_first x l unended kept over =
-    grind (arith, ltb-true, kept, first_line, first_of, lines, length-append, lt-leb)
+pub overlong_first : (x l : Octets)
+    → line_ends x ≡ 0 → l ≡ kept_line x → length l ≡ 131071 → KeepsFirst x l
+overlong_first x l unended kept over = λ y.
+    let rest = first_of (lines y) in
+    let long : 131070 < length x = omega (arith, over, ap length kept, length-take 131071 x) in
+    ap hex_octets kept ∙ kept_says x ∙ too_long x long
+    ∙ sym (ap line_message (first_line x y unended)
+    ∙ too_long (x ++ rest) (omega (arith, long, length-append x rest)))
 
 -- the line is not too long so far
-pub not_overlong : (x : Octets) (l : KeptLine)
-    → line_ends x ≡ 0 → l ≡ kept_line x → l.is_overlong ≡ false → IsFront x l
-not_overlong x l unended kept short = grind (arith, ltb-false, kept)
+pub not_overlong : (x l : Octets)
+    → line_ends x ≡ 0 → l ≡ kept_line x → length l ≢ 131071 → IsFront x l
+not_overlong x l unended kept short = record {
+  goes_on = record {
+    unended = unended;
+    short = omega (arith, short, ap length kept, length-take 131071 x);
+  };
+  kept = kept;
+}
 
 -- A source.
 
 -- the source has given octets in which the line goes on, and all of these are kept
-pub record Going (a b : Option Octets) (l : KeptLine) : Type 0 where
+pub record Going (a b : Option Octets) (l : Octets) : Type 0 where
   pub given : Octets
   pub read : Consumes a b given
   pub front : IsFront given l
 
-pub going_more : (a b c : Option Octets) (front octets : Octets) (l n : KeptLine)
+pub going_more : (a b c : Option Octets) (front octets l n : Octets)
     → front ≡ octets → Consumes b c octets
     → ((x : Octets) → IsFront x l → IsFront (x ++ front) n) → Going a b l → Going a c n
 going_more a b c front octets l n same more step g = record {
@@ -174,7 +152,7 @@ what_comes None c given read = ([], tt)
 what_comes (Some x) None given read = absurd read
 what_comes (Some x) (Some y) given read = (y, read)
 
-pub going_over : (a b c : Option Octets) (front octets : Octets) (l n : KeptLine)
+pub going_over : (a b c : Option Octets) (front octets l n : Octets)
     → front ≡ octets → Consumes b c octets → length octets ≤ 65536
     → ((x : Octets) → IsFront x l → KeepsFirst (x ++ front) n) → Going a b l → ReadsFirst a c n
 going_over a b c front octets l n same more few step g =
@@ -201,7 +179,7 @@ at_end None c given read end = tt
 at_end (Some x) None given read end = absurd read
 at_end (Some x) (Some y) given read end = read ∙ ap (λ z. given ++ z) end ∙ append-nil given
 
-pub going_ended : (a b c : Option Octets) (l : KeptLine)
+pub going_ended : (a b c : Option Octets) (l : Octets)
     → Consumes b c [] → IsAtEnd c → Going a b l → ReadsFirst a c l
 going_ended a b c l none end g =
     let read = Consumes-trans a b c g.given [] g.read none in
@@ -225,37 +203,32 @@ going_ended a b c l none end g =
 -- The code's own steps.
 
 -- the kept front is the whole line
-front_length : (x : Octets) (l : KeptLine) → IsFront x l → length l.front ≡ length x
-front_length x l is = ap (λ l. length l.front) is.kept
-    ∙ ap length (take_all 131070 x (omega (arith, is.goes_on.short)))
+front_length : (x l : Octets) → IsFront x l → length l ≡ length x
+front_length x l is =
+    ap length (is.kept ∙ take_all 131071 x (omega (arith, is.goes_on.short)))
 
 -- each piece makes the line longer while it goes on
-pub longer : (a b : Option Octets) (octets : Octets) (is_over : Bool) (l n : KeptLine) → 0 < length
+pub longer : (a b : Option Octets) (octets : Octets) (is_over : Bool) (l n : Octets) → 0 < length
     octets → Going a b l → ((x : Octets) → IsFront x l → OnFalse is_over (IsFront (x ++ octets) n))
-    → suc (if is_over then 0 else 131071 - length n.front) ≤ 131071 - length l.front
+    → suc (if is_over then 0 else 131071 - length n) ≤ 131071 - length l
 longer a b octets true l n some g more =
     omega (arith, front_length g.given l g.front, g.front.goes_on.short)
-longer a b octets false l n some g more = grind (arith, front_length, length-append)
+longer a b octets false l n some g more =
+    let now = more g.given g.front in
+    omega (
+      arith,
+      some,
+      front_length g.given l g.front,
+      front_length (g.given ++ octets) n now,
+      now.goes_on.short,
+      length-append g.given octets,
+    )
 
-pub first_longer : (a b : Option Octets) (l : KeptLine)
-    → Going a b l → suc 0 ≤ 131071 - length l.front
+pub first_longer : (a b : Option Octets) (l : Octets)
+    → Going a b l → suc 0 ≤ 131071 - length l
 first_longer a b l g = omega (arith, front_length g.given l g.front, g.front.goes_on.short)
 
--- the octets in the buffer are the message
-pub message_spelled : (result : Option ℕ) (digits octets : Octets) (l : KeptLine)
-    → record { front = digits; is_overlong = false } ≡ l → IfSome result (λ len. decode_of digits
-    ≡ Ok (take len octets)) → IfSome result (λ len. kept_message l ≡ Some (take len octets))
-message_spelled None digits octets l is h = tt
-message_spelled (Some len) digits octets l is h =
-    ap kept_message (sym is) ∙ line_read digits (take len octets) h
-
-pub no_message_spelled : (result : Option ℕ) (digits : Octets) (l : KeptLine)
-    → record { front = digits; is_overlong = false } ≡ l
-    → IfNone result (IsErr (decode_of digits)) → IfNone result (kept_message l ≡ None)
-no_message_spelled None digits l is h = ap kept_message (sym is) ∙ line_refused digits h
-no_message_spelled (Some len) digits l is h = tt
-
-pub read_ended : (a b c : Option Octets) (count : ℕ) (buf : Octets) (l : KeptLine)
+pub read_ended : (a b c : Option Octets) (count : ℕ) (buf l : Octets)
     → Consumes b c (take count buf) → count ≡ 0 → IsAtEnd c → Going a b l → ReadsFirst a c l
 read_ended a b c count buf l more none end g =
     going_ended a b c l (subst (λ n. Consumes b c (take n buf)) none more) end g
@@ -265,20 +238,24 @@ pub more_unended : (x front t : Octets) (o : ℕ)
 more_unended x front t o grown other e =
     grind (arith, line_ends, append_assoc, ends_append, ends_one)
 
-pub more_kept : (x front t : Octets) (o : ℕ) (k n : KeptLine)
-    → t ≡ front ++ o ∷ [] → KeepsOctet k n o → k ≡ kept_line (x ++ front) → n ≡ kept_line (x ++ t)
+pub more_kept : (x front t : Octets) (o : ℕ) (k n : Octets) → t ≡ front ++ o ∷ []
+    → n ≡ kept_line (k ++ o ∷ []) → k ≡ kept_line (x ++ front) → n ≡ kept_line (x ++ t)
 more_kept x front t o k n grown keeps e =
     keeps_kept (x ++ front) k n o e keeps
-    ∙ ap kept_line (append_assoc x front (o ∷ [])) ∙ ap (λ z. kept_line (x ++ z)) (sym grown)
+    ∙ ap kept_line (append_assoc x front (o ∷ []) ∙ ap (λ z. x ++ z) (sym grown))
 
-pub taken_front : (is_over : Bool) (x front octets : Octets) (l : KeptLine)
-    → front ≡ octets → is_over ≡ l.is_overlong → line_ends (x ++ front) ≡ 0
+pub taken_front : (is_over : Bool) (x front octets l : Octets)
+    → front ≡ octets → is_over ≡ (length l == 131071) → line_ends (x ++ front) ≡ 0
     → l ≡ kept_line (x ++ front) → OnFalse is_over (IsFront (x ++ octets) l)
 taken_front true x front octets l all is unended kept = tt
-taken_front false x front octets l all is unended kept = grind (arith, IsFront, not_overlong)
+taken_front false x front octets l all is unended kept =
+    subst (λ o. IsFront (x ++ o) l) all (not_overlong (x ++ front) l unended kept
+    (λ e. false≢true (is ∙ eq-eqb (length l) 131071 e)))
 
-pub taken_first : (is_over : Bool) (x front octets : Octets) (l : KeptLine)
-    → front ≡ octets → is_over ≡ l.is_overlong → line_ends (x ++ front) ≡ 0
+pub taken_first : (is_over : Bool) (x front octets l : Octets)
+    → front ≡ octets → is_over ≡ (length l == 131071) → line_ends (x ++ front) ≡ 0
     → l ≡ kept_line (x ++ front) → OnTrue is_over (KeepsFirst (x ++ octets) l)
-taken_first true x front octets l all is unended kept = grind (arith, KeepsFirst, overlong_first)
+taken_first true x front octets l all is unended kept =
+    subst (λ o. KeepsFirst (x ++ o) l) all
+    (overlong_first (x ++ front) l unended kept (eqb-true (length l) 131071 (sym is)))
 taken_first false x front octets l all is unended kept = tt

@@ -85,7 +85,7 @@ pairs_said i (h ∷ l ∷ text) = by_cases
         let first : hex_digit_value h ≡ None = rw high at (digit_same h) in
         rw (first, high) refl
 
-odd_is_none : (text : Octets) → length text % 2 ≡ 1 → hex_octets text ≡ None
+pub odd_is_none : (text : Octets) → length text % 2 ≡ 1 → hex_octets text ≡ None
 unfolding hex_octets
 odd_is_none [] odd = absurd (omega (arith, odd))
 odd_is_none (h ∷ []) odd = refl

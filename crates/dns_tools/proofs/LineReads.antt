@@ -1,6 +1,6 @@
 -- What a run over lines has done when its input is read, or when a device has failed.
-use Rattle.dns_tools.proofs.Common.{◌≡◌, ◌≢◌, ℕ, ◌+◌, ◌-◌, ◌^◌, ◌<◌, ◌≤◌, Bool, ◌&&◌, ◌⊎◌, inl, inr, [], ◌∷◌, ◌++◌, length, take, Option, Some, None, Result, Ok, Err, IsErrAnd, refl, sym, ap, ◌∙◌, subst, arith, append_assoc, append-nil, length-append, is_some, take_all, take-append-le, length-take-le, cases_lt, take-append-add, Appends, Consumes, IsAtEnd, Keeps, Octets, Appends-nil, Appends-trans, Consumes-trans, Consumes-kept, lines, line_ends, ended_lines, line_message, message_answer, line_answers, are_messages, AppendsBeginning, beginning_of_second, Session, Kept, IsFresh, Progress, Begun, IsInput, LinesAnswered, HasAnsweredLines, HasAnsweredEnded, HasBegunAnswers, Grows, KeepsUp, kept_message, Stop, Source, Sink}
-use Rattle.dns_tools.proofs.KeptLines.{line_alone, lines_nil, kept_says}
+use Rattle.dns_tools.proofs.Common.{◌≡◌, ◌≢◌, ℕ, ◌+◌, ◌-◌, ◌^◌, ◌<◌, ◌≤◌, Bool, ◌&&◌, ◌⊎◌, inl, inr, [], ◌∷◌, ◌++◌, length, take, Option, Some, None, Result, Ok, Err, IsErrAnd, refl, sym, ap, ◌∙◌, subst, arith, append_assoc, append-nil, length-append, is_some, take_all, take-append-le, take-append-add, Appends, Consumes, IsAtEnd, Keeps, Octets, Appends-nil, Appends-trans, Consumes-trans, Consumes-kept, lines, line_ends, ended_lines, message_answer, line_answers, are_messages, AppendsBeginning, beginning_of_second, Session, Kept, IsFresh, Progress, Begun, IsInput, LinesAnswered, HasAnsweredLines, HasAnsweredEnded, HasBegunAnswers, Grows, KeepsUp, hex_octets, kept_line, length-take, Stop, Source, Sink}
+use Rattle.dns_tools.proofs.KeptLines.{line_alone, lines_nil}
 use Rattle.dns_tools.proofs.LineRuns.{one_answer, one_flag, progress_none}
 use Rattle.dns_spec.proofs.Common.{nil_from_length}
 
@@ -23,17 +23,12 @@ front_lines : (front : Octets) → line_ends front ≡ 0 → length front ≢ 0 
 front_lines [] e some = absurd (some refl)
 front_lines (o ∷ front) e some = line_alone o front e
 
-empty_front : (front line : Octets) → line ≡ take 131070 front → length line ≡ 0 → front ≡ []
-empty_front front line e none = elim (cases_lt (length front) 131070) [
-  | inl small ↦
-      nil_from_length front (sym (ap length (e ∙ take_all 131070 front (omega (arith, small))))
-      ∙ none)
-  | inr large ↦ absurd (omega (arith, none, ap length e, length-take-le 131070 front large))
-]
-
-some_front : (front line : Octets) → line ≡ take 131070 front → length line ≢ 0 → length front ≢ 0
-some_front [] line e some = absurd (some (ap length e))
-some_front (o ∷ front) line e some = λ h. omega (arith, h)
+-- some of a line is kept if and only if the line is not empty
+kept_length : (front line : Octets) → line ≡ kept_line front
+    → (length line ≡ 0 → length front ≡ 0) × (length line ≢ 0 → length front ≢ 0)
+kept_length front line e =
+    let long = ap length e ∙ length-take 131071 front in
+    (λ none. omega (arith, long, none), λ some none. some (omega (arith, long, none)))
 
 -- the lines of an input that was read: those that have ended, and the last one if some of it is
 -- kept
@@ -44,43 +39,37 @@ module _ (reply : Octets → Option Octets) (x y : Option Octets) (input : Octet
       ap lines (sym (append-nil input)) ∙ p.same []
       ∙ ap (λ z. p.ended ++ lines z) (append-nil p.front)
 
-  line_is : k.line.front ≡ take 131070 p.front
-  line_is = ap (λ l. l.front) p.kept
-
-  pub finished_empty : length k.line.front ≡ 0 → Answered reply x y input k.passes
+  pub finished_empty : length k.line ≡ 0 → Answered reply x y input k.passes
   finished_empty none =
       let all : p.ended ≡ lines input =
-      sym (whole_lines ∙ ap (λ z. p.ended ++ lines z) (empty_front p.front
-      k.line.front line_is none) ∙ ap (λ z. p.ended ++ z) lines_nil ∙ append-nil p.ended) in
+      sym (whole_lines ∙ ap (λ z. p.ended ++ lines z) (nil_from_length p.front
+      ((kept_length p.front k.line p.kept).0 none)) ∙ ap (λ z. p.ended ++ z) lines_nil ∙ append-nil p.ended) in
       record {
         written = subst (Appends x y) (ap (line_answers reply) all) p.written;
         passes_is = p.passes_is ∙ ap are_messages all;
       }
 
-  module _ (some : length k.line.front ≢ 0) where
+  module _ (some : length k.line ≢ 0) where
     all_lines : p.ended ++ p.front ∷ [] ≡ lines input
     all_lines =
         sym (whole_lines ∙ ap (λ l. p.ended ++ l)
-        (front_lines p.front p.none_ended (some_front p.front k.line.front line_is some)))
+        (front_lines p.front p.none_ended ((kept_length p.front k.line p.kept).1 some)))
 
-    says : kept_message k.line ≡ line_message p.front
-    says = kept_says p.front k.line p.kept
-
-    all_answers : line_answers reply p.ended ++ message_answer reply (kept_message k.line)
+    all_answers : line_answers reply p.ended ++ message_answer reply (hex_octets k.line)
         ≡ line_answers reply (lines input)
-    all_answers = one_answer reply p.ended p.front k says ∙ ap (line_answers reply) all_lines
+    all_answers = one_answer reply p.ended p.front k p.kept ∙ ap (line_answers reply) all_lines
 
     pub finished_line : (z : Option Octets) (passes : Bool)
-        → Appends y z (message_answer reply (kept_message k.line))
-        → passes ≡ (k.passes && is_some (kept_message k.line)) → Answered reply x z input passes
+        → Appends y z (message_answer reply (hex_octets k.line))
+        → passes ≡ (k.passes && is_some (hex_octets k.line)) → Answered reply x z input passes
     finished_line z passes written now = record {
       written = subst (Appends x z) all_answers (Appends-trans x y z _ _ p.written written);
       passes_is =
-          one_flag reply p.ended p.front k says passes now p.passes_is ∙ ap are_messages all_lines;
+          one_flag reply p.ended p.front k p.kept passes now p.passes_is ∙ ap are_messages all_lines;
     }
 
     pub finished_begun : (z : Option Octets) → AppendsBeginning y z (message_answer reply
-        (kept_message k.line)) → AppendsBeginning x z (line_answers reply (lines input))
+        (hex_octets k.line)) → AppendsBeginning x z (line_answers reply (lines input))
     finished_begun z begun =
         subst (AppendsBeginning x z) all_answers (beginning_of_second x y z _ _ p.written begun)
 

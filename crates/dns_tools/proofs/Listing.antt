@@ -1,5 +1,5 @@
 -- The list of faults is written as the definitions have it.
-use Rattle.dns_tools.proofs.Common.{◌≡◌, ℕ, ◌+◌, ◌<◌, ◌==◌, ◌&&◌, Bool, true, false, List, [], ◌∷◌, ◌++◌, length, take, drop, get_or, ne_eqb, refl, sym, ap, ◌∙◌, arith, codes, decimal, flat_map, filter, append_assoc, append-nil, length-append, drop-cons, add-one, if◌then◌else◌, Octets, DomainName, folded, ResourceRecord, zone_of, Fault, Report, fault_report, two_digits, fault_code, faults, name_text, Option, Some, Counted, Appends-nil, Appends, AppendsBeginning, ZoneContents, Result, Ok, Err, IsErrAnd, Stop, Memory, Source, Sink, ReportedAs, GivesMeaning, IsRead, records, false≢true, subst}
+use Rattle.dns_tools.proofs.Common.{◌≡◌, ℕ, ◌+◌, ◌<◌, ◌==◌, ◌&&◌, Bool, true, false, List, [], ◌∷◌, ◌++◌, length, take, drop, get_or, ne_eqb, refl, sym, ap, ◌∙◌, arith, codes, flat_map, filter, append_assoc, length-append, drop-cons, add-one, if◌then◌else◌, Octets, DomainName, folded, ResourceRecord, zone_of, Fault, Report, fault_report, two_digits, fault_code, faults, name_text, Option, Some, Counted, Appends-nil, Appends, AppendsBeginning, ZoneContents, Result, Ok, Err, IsErrAnd, Stop, Memory, Source, Sink, ReportedAs, GivesMeaning, IsRead, records, false≢true, subst}
 use Rattle.std.specs.Prelude.{map, cond}
 use Rattle.std.proofs.lemmas.List.Folds.{flat_map-map}
 use Rattle.std.specs.Vec.{vec_len}
@@ -7,13 +7,13 @@ use Rattle.dns_spec.proofs.Common.{length-map}
 use Rattle.dns_spec.specs.Meaning.{Means}
 use Rattle.dns_spec.proofs.ZoneTexts.NoFault.{no_fault}
 use Rattle.dns_tools.proofs.CheckedZone.{report_begun}
-use Rattle.dns_tools.proofs.LineParts.{IsLeft, fault_written}
-use Rattle.dns_spec.specs.AllFaults.{AllFaults, EntryFault, ListsFaults, is_lasting, listing, entry_report, more_report, number_text, position_text, zone_faults, most_listed, line_at, column_at}
+use Rattle.dns_tools.proofs.LineParts.{IsLeft}
+use Rattle.dns_spec.specs.AllFaults.{AllFaults, EntryFault, ListsFaults, is_lasting, listing, entry_report, more_report, number_text, position_text, zone_faults, most_listed}
 use Rattle.dns_master.specs.FaultListForm.{IsList, ListsText, ReadsOctets}
 use Rattle.dns_master.specs.ListingForm.{shown_fault}
 use Rattle.dns_master.specs.declared.scanned.EntryFault as code
 use Rattle.dns_master.specs.declared.listing.FaultList.{FaultList}
-use Rattle.dns_zone.specs.FaultForm.{numbered_owner, fault_of, faults_of, zone_in, faults_in}
+use Rattle.dns_zone.specs.FaultForm.{fault_of, faults_of, zone_in, faults_in}
 use Rattle.dns_zone.specs.declared.build_fault.CheckFault.{CheckFault}
 use Rattle.dns_zone.specs.declared.build_fault.CheckFaults.{CheckFaults}
 use Rattle.dns_tools.specs.Listed.{ListedAs, list_report}
@@ -25,26 +25,6 @@ fault_line text fault = entry_report text (shown_fault fault)
 -- the line after the last listed fault, if there are more
 abbrev pub more_line : FaultList → Octets
 more_line list = if list.has_more then codes "more\n" else []
-
-line_parts : (a b c d e f g h i j k : Octets) → a ++ (b ++ (c ++ (d ++ (e ++ (f
-    ++ (g ++ (h ++ (i ++ (j ++ (k ++ [])))))))))) ≡
-    a ++ b ++ c ++ d ++ (e ++ f ++ g) ++ h ++ i ++ j ++ k
-line_parts a b c d e f g h i j k = simp (append_assoc, append-nil)
-
--- the line for a fault
-pub fault_listed : (text : Octets) (f : code.EntryFault) (bl bc el ec n : ℕ)
-    → bl ≡ line_at text f.place.begins → bc ≡ column_at text f.place.begins
-    → el ≡ line_at text f.place.ends → ec ≡ column_at text f.place.ends
-    → n ≡ fault_code (shown_fault f).fault
-    → decimal bl ++ (codes ":" ++ (decimal bc ++ (codes "-" ++ (decimal el ++ (codes ":"
-    ++ (decimal ec ++ (codes " R" ++ (two_digits n ++ (number_text f.number ++ (codes "\n"
-    ++ [])))))))))) ≡ fault_line text f
-fault_listed text f bl bc el ec n e1 e2 e3 e4 e5 =
-    rw (e1, e2, e3, e4, e5) (line_parts
-    (decimal (line_at text f.place.begins)) (codes ":") (decimal (column_at text f.place.begins))
-    (codes "-") (decimal (line_at text f.place.ends)) (codes ":")
-    (decimal (column_at text f.place.ends)) (codes " R")
-    (two_digits (fault_code (shown_fault f).fault)) (number_text f.number) (codes "\n"))
 
 -- the line of the next fault, and the lines after it
 pub next_fault : (text : Octets) (list : FaultList) (xs : List code.EntryFault) (i : ℕ)
@@ -86,25 +66,11 @@ all_left contents old whole = record {
 abbrev pub check_line : CheckFaults → CheckFault → Octets
 check_line zone fault = fault_report (fault_of (zone_in zone) fault)
 
--- the line of the next fault of a zone, as it is written, and the lines after it
-pub next_check : (zone : CheckFaults) (xs : List CheckFault) (i : ℕ) (f : CheckFault)
-    {owner : DomainName} {text : Octets} → xs ≡ zone.found.items → i < length xs
-    → owner ≡ numbered_owner (zone_in zone) (get_or xs i f).owner → text ≡ name_text owner
-    ++ (codes " Z" ++ (two_digits (get_or xs i f).code ++ (codes "\n" ++ [])))
-    → flat_map (check_line zone) (drop i zone.found.items)
-    ≡ text ++ flat_map (check_line zone) (drop (i + 1) zone.found.items)
-next_check zone xs i f {owner} is less name text_is =
-    let fault = get_or xs i f in
-    let line = text_is
-    ∙ fault_written {f = record { owner = owner; code = fault.code }}
-    (ap (λ (n : DomainName). record { owner = n; code = fault.code }) name) in
-    next (check_line zone) zone.found.items is
-    ∙ ap (λ t. t ++ flat_map (check_line zone) (drop (i + 1) zone.found.items)) (sym line)
-  where
-    next : (line : CheckFault → Octets) (items : List CheckFault) → xs ≡ items
-        → flat_map line (drop i items)
-        ≡ line (get_or xs i f) ++ flat_map line (drop (i + 1) items)
-    next line items is = rw (← is, drop-cons xs i f, add-one) refl
+-- the line of the next fault of a zone, and the lines after it
+pub next_check : (line : CheckFault → Octets) (items xs : List CheckFault) (i : ℕ) (f : CheckFault)
+    → xs ≡ items → i < length xs → flat_map line (drop i items)
+    ≡ line (get_or xs i f) ++ flat_map line (drop (i + 1) items)
+next_check line items xs i f is less = rw (← is, drop-cons xs i f, add-one) refl
 
 -- no line for a fault of a zone is written yet
 pub all_checked : {V : Type 0} (contents : V → Option Octets) (old : Counted V)

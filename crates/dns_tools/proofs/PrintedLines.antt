@@ -1,5 +1,5 @@
 -- What was printed for a message, a fault or a line is what a run must print.
-use Rattle.dns_tools.proofs.Common.{◌≡◌, ◌≢◌, ℕ, ◌≤◌, Bool, false, Option, Some, None, Result, Ok, Err, codes, refl, sym, subst, arith, inr, Octets, Report, IfErr, NoMessage, PrintsOctets, PrintsMessage, UnlessNoMemory, WireFault, Short, ReservedLabel, BadPointer, LongName, BadData, Trailing, NoMemory, Stop, Memory, Source, Sink, source_failures_after, sink_failures_after, ReportedAs, KeptLine, kept_message, HasReadFront, ReadsFirst, PrintedAs}
+use Rattle.dns_tools.proofs.Common.{◌≡◌, ◌≢◌, ℕ, ◌≤◌, Bool, false, Option, Some, None, Result, Ok, Err, codes, refl, sym, subst, arith, inr, Octets, Report, IfErr, NoMessage, PrintsOctets, PrintsMessage, UnlessNoMemory, WireFault, Short, ReservedLabel, BadPointer, LongName, BadData, Trailing, NoMemory, Stop, Memory, Source, Sink, source_failures_after, sink_failures_after, ReportedAs, hex_octets, HasReadFront, ReadsFirst, PrintedAs}
 use Rattle.dns_spec.specs.MessageFaults.{MessageFault}
 use Rattle.dns_wire.specs.WireFault.{fault_code}
 use Rattle.dns_tools.specs.Printed.{fault_line}
@@ -76,8 +76,8 @@ handed_printed a b x Memory h front = refl
 handed_printed a b x Source h front = (front refl, refl)
 handed_printed a b x Sink h front = absurd (h refl)
 
-pub line_printed : (a b x y : Option Octets) (l : KeptLine) (result : Result Bool Stop) → ReadsFirst
-    a b l → IfErr result (λ stop. stop ≢ Source) → ReportedAs (PrintsMessage (kept_message l))
+pub line_printed : (a b x y : Option Octets) (l : Octets) (result : Result Bool Stop) → ReadsFirst
+    a b l → IfErr result (λ stop. stop ≢ Source) → ReportedAs (PrintsMessage (hex_octets l))
     result x y → PrintedAs (record { unread = a; left = b; held = x; holds = y }) result
 line_printed a b x y l (Ok passes) r h w = grind (arith, ReportedAs, PrintsMessage)
 line_printed a b x y l (Err Sink) r h w = grind (arith, ReportedAs, PrintsMessage)

@@ -1,6 +1,6 @@
 -- What a run over lines has read and written, at its end and at each point before.
 use Rattle.std.specs.Prelude.{⊤, ◌≡◌, ◌^◌, ◌-◌, ◌<◌, ◌≤◌, Bool, true}
-use Rattle.std.specs.Prelude.{List, ◌++◌, length, take}
+use Rattle.std.specs.Prelude.{List, [], ◌++◌, length, take}
 use Rattle.std.specs.Prelude.{MatchOption, Option, Result, Ok, Err}
 use Rattle.std.specs.Io.KnownBytes.{Appends, Consumes}
 use Rattle.dns_spec.specs.Names.{Octets}
@@ -11,7 +11,7 @@ use Rattle.dns_name.specs.Counted.{AppendsBeginning}
 use Rattle.dns_answer.specs.declared.reply.Limit.{Limit}
 use Rattle.dns_answer.specs.Limits.{limit_of}
 use Rattle.dns_serve.specs.Streams.{Session}
-use Rattle.dns_tools.specs.KeptLine.{KeptLine, no_line, kept_line}
+use Rattle.dns_tools.specs.FirstLine.{kept_line}
 use Rattle.dns_tools.specs.declared.stop.Stop.{Stop}
 use Rattle.dns_tools.specs.declared.stop.Stop.TheVariants.{Memory, Source, Sink}
 
@@ -74,12 +74,12 @@ LinesAnswered reply s (Err Memory) = (s.left ≡ s.unread) × (s.holds ≡ s.hel
 -- What is kept of an input: the front of the unfinished line, and whether all earlier lines are
 -- messages.
 pub record Kept : Type 0 where
-  pub line : KeptLine
+  pub line : Octets
   pub passes : Bool
 
 -- nothing was read
 pub record IsFresh (k : Kept) : Type 0 where
-  pub line : k.line ≡ no_line
+  pub line : k.line ≡ []
   pub passes : k.passes ≡ true
 
 -- The lines that have ended in the input so far were answered, and the front of the next one is

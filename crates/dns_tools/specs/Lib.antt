@@ -8,7 +8,6 @@ pub mod Checked
 pub mod Listed
 pub mod Sockets
 pub mod Turns
-pub mod KeptLine
 pub mod FirstLine
 pub mod Printed
 pub mod Parts

@@ -171,13 +171,9 @@ fn write_entry_fault<W: Write>(
     *at = at.moved(text, fault.place.begins);
     let end = at.moved(text, fault.place.ends);
     let line = [
-        LinePart::Number(at.line),
-        LinePart::Text(b":"),
-        LinePart::Number(at.column),
+        LinePart::Position(at.line, at.column),
         LinePart::Text(b"-"),
-        LinePart::Number(end.line),
-        LinePart::Text(b":"),
-        LinePart::Number(end.column),
+        LinePart::Position(end.line, end.column),
         LinePart::Text(b" R"),
         LinePart::Code(fault.code.number()),
         LinePart::DottedNumber(fault.number),

@@ -1,11 +1,11 @@
 //! A line of hexadecimal digits, read piece by piece.
-ghost use Rattle.std.specs.Prelude.{◌≡◌, ◌-◌, ◌^◌, ◌<◌, ◌≤◌, ◌==◌, ◌++◌, length, take, vec_len, vec_capacity, ◌*◌, ◌+◌, Some, None, Ok, IfOk, OnOk, OnErr, IfSome, IfNone, IsErr};
+ghost use Rattle.std.specs.Prelude.{◌≡◌, ◌-◌, ◌^◌, ◌<◌, ◌≤◌, ◌==◌, [], ◌∷◌, ◌++◌, length, take, vec_len, vec_capacity, Some, None, IfOk, OnOk, OnErr, IfSome, IfNone};
 ghost use Rattle.std.specs.Bool.{OnTrue, OnFalse};
 ghost use Rattle.dns_spec.specs.Names.{Octets};
-ghost use Rattle.hex.specs.Hex.{decode_of};
+ghost use Rattle.dns_spec.specs.DataText.{hex_octets};
 ghost use Rattle.dns_name.specs.Counted.{failures_after};
 ghost use Rattle.dns_tools.specs.declared.stop.Stop.TheVariants.{Source};
-ghost use Rattle.dns_tools.specs.declared.line.TheConstants.{MOST_DIGITS, MOST_LINE_OCTETS, PIECE};
+ghost use Rattle.dns_tools.specs.declared.line.TheConstants.{MOST_KEPT, MOST_LINE_OCTETS, PIECE};
 
 use crate::stop::Stop;
 use dns_name::{SourceFailed, Tally};
@@ -13,10 +13,12 @@ use std::alloc::{AllocError, Global};
 use std::io::Read;
 use std::marker::Model;
 
-/// The most octets of a message on a line. `MOST_DIGITS` is the number of their digits.
+/// The most octets of a message on a line.
 pub(crate) const MOST_LINE_OCTETS: usize = 65_535;
 
-pub(crate) const MOST_DIGITS: usize = 131_070;
+// The most digits that are kept of a line: one more than the longest message has. No octets are
+// spelled by so many digits, since their number is odd.
+const MOST_KEPT: usize = 131_071;
 
 /// The most octets of an input that are read at once.
 pub(crate) const PIECE: usize = 65_536;
@@ -29,59 +31,51 @@ impl From<SourceFailed> for Stop {
     }
 }
 
-/// What is kept of an unfinished line: its front, up to the length of the longest message, and
-/// whether the line is longer.
+/// What is kept of an unfinished line: its front, up to one digit more than the longest message has.
 #[derive(Drop)]
 pub(crate) struct Line {
     digits: Vec<u8>,
-    is_overlong: bool,
-    ghost digits_fit: { vec_len digits ≤ MOST_DIGITS },
-    ghost digits_room: { MOST_DIGITS ≤ vec_capacity digits },
+    ghost digits_fit: { vec_len digits ≤ MOST_KEPT },
+    ghost digits_room: { MOST_KEPT ≤ vec_capacity digits },
 }
 
 impl Model for Line {
-    ghost use Rattle.dns_tools.specs.KeptLine.{KeptLine};
+    ghost use Rattle.dns_spec.specs.Names.{Octets};
 
-    ghost Value = { KeptLine };
+    ghost Value = { Octets };
 
-    ghost view = { λ l. record { front = l.digits.items; is_overlong = l.is_overlong } };
+    ghost view = { λ l. l.digits.items };
 }
 
 impl Line {
-    ghost use Rattle.dns_tools.specs.KeptLine.{no_line, kept_message, KeepsOctet};
-    ghost use Rattle.dns_tools.specs.FirstLine.{IsFront, KeepsFirst, HasReadFront, ReadsFirst};
+    ghost use Rattle.dns_tools.specs.FirstLine.{kept_line, IsFront, KeepsFirst, HasReadFront, ReadsFirst};
 
     pub(crate) fn new(alloc: Global) -> Result<Line, AllocError>
-        ensures { IfOk result (λ line. line ≡ no_line) }
+        ensures { IfOk result (λ line. line ≡ []) }
     {
-        Ok(Line {
-            digits: Vec::with_capacity(alloc, MOST_DIGITS)?,
-            is_overlong: false,
-        })
+        let digits = Vec::with_capacity(alloc, MOST_KEPT)?;
+        Ok(Line { digits })
     }
 
     pub(crate) fn is_empty(&self) -> bool
-        ensures { result ≡ (length self.now.front == 0) }
+        ensures { result ≡ (length self.now == 0) }
     {
         self.digits.is_empty()
     }
 
     /// Keeps the next octet of the line, unless the line is already too long to be a message.
     pub(crate) fn keep(&mut self, octet: u8)
-        ensures { KeepsOctet self.old self.new octet }
+        ensures { self.new ≡ kept_line (self.old ++ octet ∷ []) }
     {
-        if self.digits.len() < MOST_DIGITS {
+        if self.digits.len() < MOST_KEPT {
             self.digits.push_reserved(octet);
-        } else {
-            self.is_overlong = true;
         }
     }
 
     pub(crate) fn clear(&mut self)
-        ensures { self.new ≡ no_line }
+        ensures { self.new ≡ [] }
     {
         self.digits.clear();
-        self.is_overlong = false;
     }
 
     /// Reads the first line of a source, in pieces of at most `PIECE` octets, and stops once the
@@ -92,7 +86,7 @@ impl Line {
         source: &mut Tally<R>,
     ) -> Result<(), SourceFailed>
         requires source { source.old.failures < 2 ^ 64 - 1 }
-        requires fresh { self.old ≡ no_line }
+        requires fresh { self.old ≡ [] }
         requires piece { length piece.old ≡ PIECE }
         ensures counted { source.new.failures ≡ failures_after source.old.failures result }
         ensures read { OnOk result (ReadsFirst (R.remaining source.old.device)
@@ -121,33 +115,19 @@ impl Line {
             }
             self.keep(*octet);
         }
-        self.is_overlong
+        self.digits.len() == MOST_KEPT
     }
 
     /// Writes the octets of the line's message to the front of the buffer, and returns their
     /// number. `None` if the line is not a message.
     pub(crate) fn spell(&self, octets: &mut [u8]) -> Option<usize>
         requires { length octets.old ≡ MOST_LINE_OCTETS }
-        ensures some { IfSome result (λ len. kept_message self.now ≡ Some (take len octets.new)) }
+        ensures some { IfSome result (λ len. hex_octets self.now ≡ Some (take len octets.new)) }
         ensures within { IfSome result (λ len. len ≤ length octets.new) }
-        ensures none { IfNone result (kept_message self.now ≡ None) }
+        ensures none { IfNone result (hex_octets self.now ≡ None) }
     {
-        if self.is_overlong {
-            return None;
-        }
-        octets_of(self.digits.as_slice(), octets)
+        let len = self.digits.len() / 2;
+        hex::decode_to_slice(self.digits.as_slice(), &mut octets[..len]).ok()?;
+        Some(len)
     }
-}
-
-// Writes the octets that digits spell to the front of the buffer, and returns their number.
-// `None` if the digits do not spell octets.
-fn octets_of(digits: &[u8], octets: &mut [u8]) -> Option<usize>
-    requires { length digits.now ≤ 2 * length octets.old + 1 }
-    ensures some { IfSome result (λ len. decode_of digits.now ≡ Ok (take len octets.new)) }
-    ensures within { IfSome result (λ len. len ≤ length octets.new) }
-    ensures none { IfNone result (IsErr (decode_of digits.now)) }
-{
-    let len = digits.len() / 2;
-    hex::decode_to_slice(digits, &mut octets[..len]).ok()?;
-    Some(len)
 }

@@ -1,8 +1,8 @@
 //! Lines of output, assembled from texts, numbers, names and data.
-ghost use Rattle.std.specs.Prelude.{◌≡◌, ◌+◌, ◌-◌, ◌^◌, ◌<◌, ◌≤◌, ◌++◌, length, decimal};
+ghost use Rattle.std.specs.Prelude.{◌≡◌, ◌+◌, ◌-◌, ◌^◌, ◌<◌, ◌≤◌, ◌++◌, length, codes, decimal};
 ghost use Rattle.dns_spec.specs.AllFaults.{number_text};
 ghost use Rattle.dns_spec.specs.Layout.{octets16};
-ghost use Rattle.dns_spec.specs.MessageLines.{class_text};
+ghost use Rattle.dns_spec.specs.MessageLines.{class_text, count_text};
 ghost use Rattle.dns_spec.specs.Report.{two_digits};
 ghost use Rattle.dns_spec.specs.WrittenText.{hex_text};
 ghost use Rattle.dns_name.specs.Counted.{Writes, Fills};
@@ -26,6 +26,10 @@ pub(crate) enum LinePart<'a> {
     Text(&'a [u8]),
     /// A number in decimal.
     Number(u64),
+    /// A space and a number in decimal.
+    Count(usize),
+    /// A line and a column in decimal, with a colon between them.
+    Position(u64, u64),
     /// 16 bits in four hexadecimal digits, in lower case.
     Hex(u16),
     /// The two decimal digits of a code.
@@ -78,6 +82,8 @@ impl LinePart<'_> {
         match self {
             LinePart::Text(octets) => return text.put(octets, sink),
             LinePart::Number(number) => text.append(Buffer::new().format(*number).as_bytes()),
+            LinePart::Count(count) => append_count(*count, text),
+            LinePart::Position(line, column) => append_position(*line, *column, text),
             LinePart::Hex(number) => text.append(hex_of(*number).as_slice()),
             LinePart::Code(code) => text.append(&[b'0' + *code / 10, b'0' + *code % 10]),
             LinePart::DottedNumber(number) => append_dotted(*number, text),
@@ -92,6 +98,23 @@ impl LinePart<'_> {
         }
         Ok(())
     }
+}
+
+fn append_count(count: usize, text: &mut TextBuffer)
+    requires { length text.old + 1020 ≤ 4096 }
+    ensures { text.new ≡ text.old ++ count_text count }
+{
+    text.append(b" ");
+    text.append(Buffer::new().format(count).as_bytes());
+}
+
+fn append_position(line: u64, column: u64, text: &mut TextBuffer)
+    requires { length text.old + 1020 ≤ 4096 }
+    ensures { text.new ≡ text.old ++ (decimal line ++ codes ":" ++ decimal column) }
+{
+    text.append(Buffer::new().format(line).as_bytes());
+    text.append(b":");
+    text.append(Buffer::new().format(column).as_bytes());
 }
 
 fn append_dotted(number: Option<u8>, text: &mut TextBuffer)

@@ -8,7 +8,6 @@ ghost use Rattle.dns_wire.specs.WireFault.{fault_code};
 ghost use Rattle.dns_tools.specs.Checked.{ReportedAs};
 ghost use Rattle.dns_tools.specs.FirstLine.{HasReadFront, ReadsFirst};
 ghost use Rattle.dns_tools.specs.Printed.{fault_line, PrintedAs};
-ghost use Rattle.dns_tools.specs.KeptLine.{kept_message};
 ghost use Rattle.dns_tools.specs.declared.line.TheConstants.{MOST_LINE_OCTETS};
 ghost use Rattle.dns_tools.specs.Stops.{source_failures_after, sink_failures_after};
 
@@ -130,14 +129,10 @@ fn write_header<W: Write>(message: &Message, sink: &mut Tally<W>) -> Result<(), 
         LinePart::Hex(message.head.id),
         LinePart::Text(b" "),
         LinePart::Hex(message.head.flags),
-        LinePart::Text(b" "),
-        LinePart::Number(message.questions.len() as u64),
-        LinePart::Text(b" "),
-        LinePart::Number(message.answers.len() as u64),
-        LinePart::Text(b" "),
-        LinePart::Number(message.authorities.len() as u64),
-        LinePart::Text(b" "),
-        LinePart::Number(message.additionals.len() as u64),
+        LinePart::Count(message.questions.len()),
+        LinePart::Count(message.answers.len()),
+        LinePart::Count(message.authorities.len()),
+        LinePart::Count(message.additionals.len()),
         LinePart::Text(b"\n"),
     ];
     write_parts(line.as_slice(), sink)

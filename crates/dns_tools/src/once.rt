@@ -1,10 +1,10 @@
 //! Reads messages as lines of hexadecimal digits, and answers each with a line.
-ghost use Rattle.std.specs.Prelude.{◌≡◌, ◌≢◌, ◌-◌, ◌*◌, ◌^◌, ◌<◌, ◌≤◌, ◌++◌, ◌&&◌, length, take, vec_len, Option, Some, Err, OnOk, OnErr, IfOk, IfErr, IfSome};
+ghost use Rattle.std.specs.Prelude.{◌≡◌, ◌≢◌, ◌-◌, ◌*◌, ◌^◌, ◌<◌, ◌≤◌, [], ◌++◌, ◌&&◌, length, take, vec_len, Option, Some, Err, OnOk, OnErr, IfOk, IfErr, IfSome};
 ghost use Rattle.std.specs.Option.{is_some, option_copied};
 ghost use Rattle.dns_spec.specs.Names.{Octets};
 ghost use Rattle.dns_spec.specs.Lines.{line_answers, lines, message_answer, reply_line};
 ghost use Rattle.dns_tools.specs.Exchanges.{Begun, Grows, IsFresh, LinesAnswered, Progress, reply_within};
-ghost use Rattle.dns_tools.specs.KeptLine.{kept_message, no_line};
+ghost use Rattle.dns_spec.specs.DataText.{hex_octets};
 ghost use Rattle.dns_name.specs.Counted.{AppendsBeginning, Writes, failures_after};
 ghost use Rattle.dns_serve.specs.Streams.{session};
 ghost use Rattle.dns_tools.specs.Stops.{source_failures_after, sink_failures_after};
@@ -143,10 +143,10 @@ impl<'z> Exchange<'z> {
     fn end_line<W: Write>(&mut self, sink: &mut Tally<W>) -> Result<(), SinkFailed>
         requires { sink.old.failures < 2 ^ 64 - 1 }
         ensures answered { Writes W.contents sink.old sink.new result
-            (message_answer (reply_of self.old) (kept_message self.old.line)) }
-        ensures line { OnOk result (self.new.line ≡ no_line) }
+            (message_answer (reply_of self.old) (hex_octets self.old.line)) }
+        ensures line { OnOk result (self.new.line ≡ []) }
         ensures passes { OnOk result (self.new.are_all_messages ≡ (self.old.are_all_messages
-            && is_some (kept_message self.old.line))) }
+            && is_some (hex_octets self.old.line))) }
         ensures task { OnOk result (reply_of self.new ≡ reply_of self.old) }
     {
         let (scratch, builders) = (self.scratch.as_mut_slice(), &mut self.builders);
@@ -186,8 +186,8 @@ fn answer<W: Write>(
     requires room { length scratch.old ≡ MOST_ANSWER }
     requires few { sink.old.failures < 2 ^ 64 - 1 }
     ensures answered { Writes W.contents sink.old sink.new result
-        (message_answer (reply_within limit zone.now) (kept_message line.now)) }
-    ensures message { IfOk result (λ message. message ≡ is_some (kept_message line.now)) }
+        (message_answer (reply_within limit zone.now) (hex_octets line.now)) }
+    ensures message { IfOk result (λ message. message ≡ is_some (hex_octets line.now)) }
 {
     let Some(len) = line.spell(&mut scratch[..MOST_LINE_OCTETS]) else {
         sink.write_all(b"bad hex\n")?;

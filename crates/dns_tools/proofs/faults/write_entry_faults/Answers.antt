@@ -1,4 +1,4 @@
-use Rattle.dns_tools.proofs.Common.{rules, ◌≡◌, ◌++◌, [], drop_all, Writes-same, Writes-held}
+use Rattle.dns_tools.proofs.Common.{rules, ◌≡◌, drop_all, Writes-same, Writes-held}
 use Rattle.dns_tools.proofs.LineParts.{text_written, text_begun}
 use Rattle.dns_tools.proofs.Listing.{next_fault, more_line}
 use Rattle.dns_tools.proofs.faults.write_entry_faults.Goals.{then-list, else-list}
@@ -23,7 +23,7 @@ faults-preserved g c = record {
 pub returns : goal.returns
 returns g c =
     let none = drop_all c.faults.fault-index c.args.list.now.faults.items (search rules) in
-    let more : c.if-list.more.now ++ [] ≡ more_line c.args.list.now = elim c.if-list.branch [
+    let more : c.if-list.more.now ≡ more_line c.args.list.now = elim c.if-list.branch [
       | then-list w ↦ search rules
       | else-list w ↦ search rules
     ] in

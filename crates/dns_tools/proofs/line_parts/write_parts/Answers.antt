@@ -1,6 +1,16 @@
-use Rattle.dns_tools.proofs.Common.{rules, ◌++◌, ap, sym, ◌∙◌, append-nil, drop_all, part_text, parts_text, OnErr-always, Writes-held, Writes-same, held_begun, held_less, held_more}
-use Rattle.dns_tools.proofs.LineParts.{next_piece}
+use Rattle.dns_tools.proofs.Common.{rules, ◌++◌, ap, sym, ◌∙◌, append-nil, drop_all, flat_map, [], Appends-nil, part_text, OnErr-always, Writes-held, Writes-same, held_begun, held_less, held_more}
+use Rattle.dns_tools.proofs.LineParts.{next_piece, parts_after}
 use Rattle.dns_tools.proofs.line_parts.write_parts.Goals as goal
+
+pub parts-init : goal.parts-init
+parts-init g c = record {
+  fills = record {
+    done = [];
+    appended = Appends-nil _;
+    whole_is = rw c.new-text.ensures (sym (parts_after [] c.args.parts.now));
+  };
+  counted = search rules;
+}
 
 pub returns-in_err-reserve : goal.returns-in_err-reserve
 returns-in_err-reserve g c = record {
@@ -35,6 +45,6 @@ parts-preserved g c =
 pub returns : goal.returns
 returns g c =
     let none = drop_all c.parts.part-index c.args.parts.now (search rules) in
-    let all = ap (λ xs. c.parts.text ++ parts_text xs) none ∙ append-nil c.parts.text in
+    let all = ap (λ xs. c.parts.text ++ flat_map part_text xs) none ∙ append-nil c.parts.text in
     Writes-held _ _ c.parts.invariant.fills c.parts.invariant.counted
     (Writes-same (sym all) c.finish.ensures)

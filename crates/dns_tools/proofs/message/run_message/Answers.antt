@@ -1,4 +1,4 @@
-use Rattle.dns_tools.proofs.Common.{false, Ok, Err, ap, refl, rules, PrintsMessage, kept_message}
+use Rattle.dns_tools.proofs.Common.{false, Ok, Err, ap, refl, rules, PrintsMessage, hex_octets}
 use Rattle.dns_tools.proofs.CheckedZone.{report_begun}
 use Rattle.dns_tools.proofs.PrintedLines.{kept_source, handed_sink, handed_printed, line_printed, line_reported, bad_hex}
 use Rattle.dns_tools.proofs.message.run_message.Goals as goal
@@ -15,7 +15,7 @@ pub returns-in_err-write_all-clause-printed : goal.returns-in_err-write_all-clau
 returns-in_err-write_all-clause-printed g c =
     let stopped = c.from_residual-in_err-write_all in
     line_printed _ _ _ _ _ stopped.result c.in-Ok.ensures.read (search rules)
-    (report_begun (PrintsMessage (kept_message c.in-Ok.line)) _ stopped.result _ _
+    (report_begun (PrintsMessage (hex_octets c.in-Ok.line)) _ stopped.result _ _
     stopped.ensures.1 (bad_hex _ c.in_default.ensures.none) c.in_err-write_all.ensures.err)
 
 pub returns-in_default-clause-printed : goal.returns-in_default-clause-printed

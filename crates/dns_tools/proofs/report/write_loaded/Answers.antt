@@ -1,11 +1,8 @@
-use Rattle.dns_tools.proofs.Common.{◌∙◌, ap, Writes-same, parts_text}
-use Rattle.dns_tools.proofs.LineParts.{loaded_written}
+use Rattle.dns_tools.proofs.Common.{refl, Writes-same}
 use Rattle.dns_tools.proofs.report.write_loaded.Goals as goal
 
 pub returns : goal.returns
 returns g c =
     Writes-same
-    (ap parts_text c.as_slice.ensures
-    ∙ loaded_written c.args.zone.now _ _ c.origin.ensures.origin
-    (c.from.ensures ∙ c.serial.ensures))
+    (rw (c.as_slice.ensures, c.origin.ensures.origin, c.from.ensures, c.serial.ensures) refl)
     c.write_parts.ensures

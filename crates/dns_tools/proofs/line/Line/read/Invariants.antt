@@ -14,4 +14,4 @@ invariant-pieces g l = record {
 }
 
 abbrev pub decreases-pieces : goal.decreases-pieces
-decreases-pieces g l = if l.is_over then 0 else 131071 - length l.self.front
+decreases-pieces g l = if l.is_over then 0 else 131071 - length l.self

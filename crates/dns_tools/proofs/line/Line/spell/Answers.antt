@@ -1,12 +1,14 @@
-use Rattle.dns_tools.proofs.KeptLines.{message_spelled, no_message_spelled}
+use Rattle.std.proofs.lemmas.Grind.{common_steps}
+use Rattle.dns_tools.proofs.Common.{arith}
+use Rattle.dns_tools.proofs.LineDigits.{line_read, line_refused}
 use Rattle.dns_tools.proofs.line.Line.spell.Goals as goal
 
 pub returns-clause-some : goal.returns-clause-some
 returns-clause-some c =
-    message_spelled c.octets_of.result _ _ _ (rw c.if-self.false at c.self.view_is)
-    (rw c.as_slice.ensures.value at c.octets_of.ensures.some)
+    rw (← c.self.view_is, ← c.as_slice.ensures.value)
+    (line_read _ _ (grind (arith, common_steps)))
 
-pub returns-clause-none : goal.returns-clause-none
-returns-clause-none c =
-    no_message_spelled c.octets_of.result _ _ (rw c.if-self.false at c.self.view_is)
-    (rw c.as_slice.ensures.value at c.octets_of.ensures.none)
+pub returns-in_err-ok-clause-none : goal.returns-in_err-ok-clause-none
+returns-in_err-ok-clause-none c =
+    rw (c.from_residual.ensures, ← c.self.view_is, ← c.as_slice.ensures.value)
+    (line_refused _ (grind (arith, common_steps)))

@@ -67,7 +67,7 @@ module _ (g : given.Over) (c : After-is_empty g) where
 pub returns-in_err-end_line-clause-lines : goal.returns-in_err-end_line-clause-lines
 returns-in_err-end_line-clause-lines g c =
     let all = all g (goal.at.returns-in_err-end_line-clause-lines g c).After-is_empty in
-    let some = eqb-false (length c.pieces.self.line.front) 0
+    let some = eqb-false (length c.pieces.self.line) 0
     (sym c.is_empty.ensures ∙ c.if-not-is_empty.true) in
     let begun = c.in_err-end_line.ensures.answered.err in
     sink_stopped
@@ -80,12 +80,12 @@ returns-clause-lines g c =
     let all = all g (goal.at.returns-clause-lines g c).After-is_empty in
     all_answered _ _ _ _ _ _ _ _ all _ (λ held x p. elim c.if-not-is_empty.branch [
       | then-not-is_empty+in_ok-end_line w ↦
-          let some = eqb-false (length c.pieces.self.line.front) 0
+          let some = eqb-false (length c.pieces.self.line) 0
           (sym c.is_empty.ensures ∙ w.if-not-is_empty.true) in
           let e = w.in_ok-end_line.ensures in
           rw (w.self-is, w.sink-is) (finished_line _ held _ x _ p some _ _ e.answered.ok e.passes)
       | else-not-is_empty w ↦
-          let none = eqb-true (length c.pieces.self.line.front) 0
+          let none = eqb-true (length c.pieces.self.line) 0
           (sym c.is_empty.ensures ∙ w.if-not-is_empty.false) in
           rw (w.self-is, w.sink-is) (finished_empty _ held _ x _ p none)
     ])
