@@ -1,6 +1,6 @@
 -- The offsets of the suffixes of the question's name do not depend on what follows the name; the
 -- distance of each from the end of the name is the suffix's length.
-use Rattle.dns_wire.proofs.Common.{◌≡◌, ℕ, zero, suc, ◌+◌, ◌-◌, ◌<◌, ◌≤◌, true, ◌⊎◌, inl, inr, List, [], ◌∷◌, ◌++◌, length, take, drop, refl, sym, ap, ◌∙◌, subst, arith, append_assoc, length-append, take-append-drop, take_at, replicate, ap₂, Option, None, Some, IfSome, and_parts, list_all, Octets, DomainName, wire, is_name, is_label, drop-drop, drop-take, take-append-le, length-take, length-drop, Stands, run_written, labels_of_spelled, IsWireForm-wire, labels_of, IsWireForm, Kept, IsKept, SpellsSuffix, IsSharedAt, NoneSpelled, AfterLabel, name_before, IsAsked, asked_offsets, NotAsked, IsLastOf, new_offsets}
+use Rattle.dns_wire.proofs.Common.{◌≡◌, ℕ, zero, suc, ◌+◌, ◌-◌, ◌<◌, ◌≤◌, true, inl, inr, List, [], ◌∷◌, ◌++◌, length, take, drop, refl, sym, ap, ◌∙◌, subst, arith, append_assoc, length-append, take-append-drop, take_at, replicate, ap₂, Option, None, Some, IfSome, and_parts, list_all, Octets, DomainName, wire, is_name, is_label, drop-drop, drop-take, take-append-le, length-take, length-drop, Stands, run_written, labels_of_spelled, IsWireForm-wire, labels_of, IsWireForm, Kept, IsKept, SpellsSuffix, IsSharedAt, NoneSpelled, AfterLabel, name_before, IsAsked, asked_offsets, NotAsked, IsLastOf, new_offsets}
 use Rattle.dns_wire.proofs.SuffixLemmas.{one_run, next_label, kept-root}
 use Rattle.dns_wire.proofs.NameWritten.{kept_left, kept_right, kept_split, kept_sound, kept_complete, NewSuffix, is_name-suffix}
 use Rattle.dns_spec.proofs.DomainNames.WireNames.{wire_split, longer_wire}
@@ -186,11 +186,10 @@ asked_none {b} {a} o asked never head p h kept there =
 pub none_of_both : (head : Octets → ℕ) (b : Octets) (a h : ℕ) (ks : List Kept) (o : Octets)
     → NotAsked b a o → NoneSpelled ks h b o → NoneSpelled (asked_offsets head b a ++ ks) h b o
 none_of_both head b a h ks o unasked none p kept there =
-    go (kept_split (asked_offsets head b a) ks p h kept)
-  where
-    go : IsKept (asked_offsets head b a) p h ⊎ IsKept ks p h → ⊥
-    go (inl k) = unasked head p h k there
-    go (inr k) = none p k there
+    elim (kept_split (asked_offsets head b a) ks p h kept) [
+      | inl k ↦ unasked head p h k there
+      | inr k ↦ none p k there
+    ]
 
 pub shared_asked : (asked ks : List Kept) {b o : Octets} {p : ℕ}
     → IsSharedAt asked b o p → IsSharedAt (asked ++ ks) b o p

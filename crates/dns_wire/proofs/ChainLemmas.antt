@@ -1,5 +1,5 @@
 -- The chains stay intact when an entry is added at the end, or the last one is removed.
-use Rattle.dns_wire.proofs.Common.{◌≡◌, ap₂, ◌-◌, ℕ, zero, suc, ◌<◌, ◌≤◌, ◌==◌, Bool, true, false, cond, List, [], ◌∷◌, ◌++◌, map, length, replicate, get_or, slice_get, slice_set, option_map, Some, refl, sym, ap, ◌∙◌, subst, arith, length-append, false≢true, eqb-true, eq-eqb, leb-false, slice_get_within, slice_get-map, slice_get-get_or, get_or-set_same, get_or-set_other, get_or-replicate, get_or_append_left, get_or_push, length-map, length-set, length-replicate, mod_below, KeptOffset, kept_in, chain_of, entry_at, last_with, AreChains}
+use Rattle.dns_wire.proofs.Common.{◌≡◌, ap₂, ◌-◌, ℕ, zero, suc, ◌<◌, ◌≤◌, ◌==◌, cond, List, [], ◌∷◌, ◌++◌, map, length, replicate, get_or, slice_get, slice_set, option_map, Some, refl, sym, ◌∙◌, subst, arith, length-append, false≢true, eqb-true, eq-eqb, leb-false, slice_get_within, slice_get-map, slice_get-get_or, get_or-set_same, get_or-set_other, get_or-replicate, get_or_append_left, get_or_push, length-map, length-set, length-replicate, mod_below, KeptOffset, kept_in, chain_of, entry_at, last_with, AreChains}
 
 last_bound : (h : ℕ) (es : List KeptOffset) (k : ℕ) → last_with h es k ≤ k
 last_bound h es zero = omega arith
@@ -48,27 +48,14 @@ module _ (es : List KeptOffset) (e : KeptOffset) where
       → AreChains heads (es ++ e ∷ []) → AreChains (slice_set heads (chain_of e.number) e.next) es
   chains_shrink heads c = record {
     all = length-set heads (chain_of e.number) e.next ∙ c.all;
-    newest = λ h low. set_head heads e.next _ h c.all (newest h low);
+    newest = λ h low. grind (arith, (c.newest h low), last_now, set_head, link, eqb-true);
     linked = λ k low.
-        let l = subst (λ (x : KeptOffset). (x.offset < 16384)
-        × (x.next ≡ last_with (chain_of x.number) (es ++ e ∷ []) k))
-        (same_before k low) (c.linked k (omega (arith, low, length-append es (e ∷ [])))) in
-        (l.0, l.1 ∙ last_before (chain_of (entry_at es k).number) k (omega (arith, low)));
+        let l = c.linked k (omega (arith, low, length-append es (e ∷ []))) in
+        grind (arith, l, same_before, last_before);
   }
     where
       link : e.next ≡ last_with (chain_of e.number) es (length es)
       link = grind (arith, last_with, chain_of, at_end, length-append, last_before)
-
-      newest : (h : ℕ) → h < 128
-          → last_with h es (length es) ≡ cond (chain_of e.number == h) e.next (get_or heads h 0)
-      newest h low = go (chain_of e.number == h) refl (c.newest h low ∙ last_now h)
-        where
-          go : (t : Bool) → (chain_of e.number == h) ≡ t
-              → get_or heads h 0 ≡ cond t (suc (length es)) (last_with h es (length es))
-              → last_with h es (length es) ≡ cond t e.next (get_or heads h 0)
-          go true q is = ap
-              (λ j. last_with j es (length es)) (sym (eqb-true (chain_of e.number) h q)) ∙ sym link
-          go false q is = sym is
 
 -- without entries
 pub chains_begin : AreChains (replicate 128 0) []

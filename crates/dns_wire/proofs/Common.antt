@@ -20,8 +20,6 @@ pub use Rattle.dns_spec.proofs.Layouts.LeastSize.{past_limit}
 pub use Rattle.dns_spec.proofs.Layouts.SameLayout.{begins_inside}
 pub use Rattle.dns_spec.proofs.Layouts.SharedLayout.{layout_spells}
 pub use Rattle.dns_spec.proofs.Layouts.SharedNames.{Known, known_more, place_again, place_pushed, shared_alone, shared_is, shared_none, shared_pointed, shared_root, shared_to, shared_whole, suffix_from, suffix_to}
-pub use Rattle.dns_spec.proofs.Messages.NameReading.{name_at_12, run12_high, run12_label, run12_label_past, run12_missing, run12_root}
-unfoldable pub use Rattle.dns_spec.proofs.Messages.NameReading.{run12}
 pub use Rattle.dns_spec.proofs.Messages.NameReading.{name_at_computes, name_computed}
 pub use Rattle.dns_spec.proofs.Messages.Sections.{data_read, field_own}
 pub use Rattle.dns_spec.proofs.Messages.Places.{Stands, label_parts, run_written}

@@ -3,7 +3,7 @@ use Rattle.dns_wire.proofs.Common.{◌≡◌, ◌↔◌, ℕ, zero, suc, ◌+◌
 use Rattle.std.specs.Bool.{OnFalse}
 use Rattle.dns_wire.proofs.AskedLemmas.{kept_more}
 use Rattle.dns_wire.proofs.NameWritten.{holds_name, place_left, place_new, shared_cut}
-use Rattle.dns_wire.proofs.SuffixLemmas.{found, front-as, front-root, pointed-as, pointed-root, kept-root, kept-high, keep_none, follows_none}
+use Rattle.dns_wire.proofs.SuffixLemmas.{found, front-as, front-root, pointed-as, pointed-root, kept-root, kept-high, kept-shared, follows_none}
 use Rattle.dns_wire.proofs.Steps.{grows_not}
 use Rattle.dns_spec.proofs.Layouts.SharedNames.{Suffix}
 
@@ -18,58 +18,34 @@ place_added ms more n p s suffix none =
 -- a name beyond the reach of pointers does not change which offsets its suffixes share
 shared_still : (ms more : List Placed) (n : DomainName) (p : ℕ) (s : DomainName) → Suffix n s
     → last_place < p → shared_place (ms ++ (n, p) ∷ more) s ≡ shared_place ms s
-shared_still ms more n p s suffix high = go (place_of ms s) refl
-  where
-    go : (x : Option ℕ)
-        → place_of ms s ≡ x → shared_place (ms ++ (n, p) ∷ more) s ≡ shared_place ms s
-    go None e = grind (arith, place_added, shared_none, lt-leb)
-    go (Some q) e = grind (arith, place_left)
+shared_still ms more n p s suffix high =
+    grind (arith, place_added, place_left, shared_none, lt-leb)
 
 -- how a name is laid out depends only on the offsets at which its suffixes are shared
 same_form : (ms ms' : List Placed) (n : DomainName) → ((s : DomainName)
     → Suffix n s → shared_place ms' s ≡ shared_place ms s)
     → IsLaid ms' n (front_size ms n, pointed_offset ms n)
+unfolding front_size pointed_offset
 same_form ms ms' [] same =
     (front-root ms' ∙ sym (front-root ms), pointed-root ms' ∙ sym (pointed-root ms))
 same_form ms ms' (l ∷ n) same =
-    go (shared_place ms (l ∷ n)) refl (same_form ms ms' n (λ s h. same s
-    (record { front = l ∷ h.front; whole = ap (λ x. l ∷ x) h.whole })))
-  where
-    own : shared_place ms' (l ∷ n) ≡ shared_place ms (l ∷ n)
-    own = same (l ∷ n) (record { front = []; whole = refl })
-
-    go : (x : Option ℕ) → shared_place ms (l ∷ n) ≡ x
-        → IsLaid ms' n (front_size ms n, pointed_offset ms n)
-        → IsLaid ms' (l ∷ n) (front_size ms (l ∷ n), pointed_offset ms (l ∷ n))
-    go None e h = (
-      front-as ms' l n (own ∙ e) ∙ ap (λ k. 1 + length l + k) h.0 ∙ sym (front-as ms l n e),
-      pointed-as ms' l n (own ∙ e) ∙ h.1 ∙ sym (pointed-as ms l n e),
-    )
-    go (Some p) e h = (
-      front-as ms' l n (own ∙ e) ∙ sym (front-as ms l n e),
-      pointed-as ms' l n (own ∙ e) ∙ sym (pointed-as ms l n e),
-    )
+    let own = same (l ∷ n) (record { front = []; whole = refl }) in
+    let rest = same_form ms ms' n
+    (λ s h. same s (record { front = l ∷ h.front; whole = ap (λ x. l ∷ x) h.whole })) in
+    grind (arith, front_size, pointed_offset, own, rest)
 
 -- a name that was laid out in this form at offset p is laid out again by `form_again`
 pub laid_again : (ms more : List Placed) (n : DomainName) (p : ℕ) (form : Form)
     → ((l : Octets) (t : DomainName) (q : ℕ) → place_of ms (l ∷ t) ≡ Some q → q < p)
     → IsLaid ms n form → IsLaid (ms ++ (n, p) ∷ more) n (form_again p form)
+unfolding front_size pointed_offset
 laid_again ms more [] p (zero, x) before laid =
-    (front-root _, pointed-root _ ∙ sym (pointed-root ms) ∙ laid.1)
+    let ms' = ms ++ ([], p) ∷ more in
+    (front-root ms', pointed-root ms' ∙ sym (pointed-root ms) ∙ laid.1)
 laid_again ms more [] p (suc k, x) before laid =
     absurd (let z = sym laid.0 ∙ front-root ms in omega (arith, z))
-laid_again ms more (l ∷ t) p (zero, x) before laid = go (shared_place ms (l ∷ t)) refl
-  where
-    go : (y : Option ℕ)
-        → shared_place ms (l ∷ t) ≡ y → IsLaid (ms ++ (l ∷ t, p) ∷ more) (l ∷ t) (zero, x)
-    go None e = absurd (let z = sym laid.0 ∙ front-as ms l t e in omega (arith, z))
-    go (Some q) e =
-        let is = shared_is ms (l ∷ t) q e in
-        let still = shared_to (ms ++ (l ∷ t, p) ∷ more) (l ∷ t) q
-        (place_left ms ((l ∷ t, p) ∷ more) (l ∷ t) q is.0) is.1 in (
-          front-as (ms ++ (l ∷ t, p) ∷ more) l t still,
-          pointed-as (ms ++ (l ∷ t, p) ∷ more) l t still ∙ sym (pointed-as ms l t e) ∙ laid.1,
-        )
+laid_again ms more (l ∷ t) p (zero, x) before laid =
+    grind (arith, front_size, pointed_offset, shared_is, shared_to, place_left)
 laid_again ms more (l ∷ t) p (suc k, x) before laid = go (nat_le p last_place) refl
   where
     ms' : List Placed
@@ -104,16 +80,10 @@ laid_again ms more (l ∷ t) p (suc k, x) before laid = go (nat_le p last_place)
 -- when a name is laid out again, no more offsets are kept of it
 pub none_kept : (head : Octets → ℕ) (ms : List Placed) (n : DomainName) (start at : ℕ) (form : Form)
     → start ≤ at → IsLaid ms n (form_again start form) → new_offsets head ms n at ≡ []
-none_kept head ms n start at (zero, x) after laid = sym (keep_none head ms n at [] laid.0)
-none_kept head ms n start at (suc k, x) after laid = go (nat_le start last_place) refl n laid
-  where
-    go : (b : Bool) → nat_le start last_place ≡ b → (n : DomainName)
-        → IsLaid ms n (cond b (zero, Some start) (suc k, x)) → new_offsets head ms n at ≡ []
-    go true e n laid = sym (keep_none head ms n at [] laid.0)
-    go false e [] laid = kept-root head ms at
-    go false e (l ∷ t) laid =
-        let high = leb-false start last_place e in
-        kept-high head ms l t at (omega (arith, high, after))
+none_kept head ms [] start at form after laid = kept-root head ms at
+none_kept head ms (l ∷ t) start at (zero, x) after laid = grind (arith, kept-shared)
+none_kept head ms (l ∷ t) start at (suc k, x) after laid =
+    grind (arith, kept-shared, kept-high, leb-false)
 
 -- a name that the message spells at a kept offset is laid out as a pointer to that offset
 pub laid_there : {head : Octets → ℕ} {ms : List Placed} {b : Octets} {ks : List Kept} {o : Octets}
@@ -185,6 +155,28 @@ name_put {known} {head} {head'} {d} {ks = ks} n o ok asked room same more is lai
           };
     })
 
+-- a name that does not fit is not written
+pub name_not_put : {known : List Placed → Type 0} {head head' : Octets → ℕ} {d d' : PartialMessage}
+    (n : DomainName) (o : Octets) → head' ≡ head → (length d.octets + length o ≤ d.limit → ⊥)
+    → d' ≡ d → ((ms : List Placed) → HasNames d head ms → known ms → shared_octets ms n ≡ o)
+    → WritesAfter known head head' d d' (name_laid n) false
+name_not_put {known} {head} {head'} {d} n o same past is laid =
+    subst (λ d'. WritesAfter known head head' d d' (name_laid n) false) (sym is) (record {
+      grows = grows_not d;
+      same = same;
+      written = λ ms holds knows.
+          let long = length-append d.octets (shared_octets ms n) in
+          let whole = ap length (laid ms holds knows) in
+          record {
+            exactly = (
+              λ no. absurd (false≢true no),
+              λ room. absurd (past (omega (arith, room, long, whole))),
+            );
+            written = tt;
+            stands = tt;
+          };
+    })
+
 -- an owner none of whose offsets are kept is written, or does not fit
 pub owner_put : {known : List Placed → Type 0} {head : Octets → ℕ} {d d' : PartialMessage} {t : Bool}
     (n : DomainName) (form : Form) (front : Octets) → is_name n ≡ true
@@ -203,28 +195,11 @@ owner_put {known} {head} {d} {t = true} n form front ok asked cut fits put not l
       laid_cut ms n form l.0 ∙ ap (λ x. x ++ end) (sym cut),
       sym (ap (λ x. d.kept ++ x) l.1 ∙ append-nil d.kept),
     ))
-owner_put {known} {head} {d} {t = false} n form front ok asked cut fits put not laid =
-    subst (λ d'. WritesAfter known head head d d' (name_laid n) false) (sym not) (record {
-      grows = grows_not d;
-      same = refl;
-      written = λ ms holds knows.
-          let whole = ap length (laid_cut ms n form (laid ms holds knows).0
-          ∙ ap (λ x. x ++ end_octets form.1) (sym cut)) in
-          record {
-            exactly = (
-              λ no. absurd (false≢true no),
-              λ room. fits.1 (omega (
-                arith,
-                room,
-                whole,
-                length-append d.octets (shared_octets ms n),
-                length-append front (end_octets form.1),
-              )),
-            );
-            written = tt;
-            stands = tt;
-          };
-    })
+owner_put {d = d} {t = false} n form front ok asked cut fits put not laid =
+    let end = end_octets form.1 in
+    name_not_put n (front ++ end) refl
+    (λ room. false≢true (fits.1 (omega (arith, room, length-append front end)))) not
+    (λ ms holds knows. laid_cut ms n form (laid ms holds knows).0 ∙ ap (λ x. x ++ end) (sym cut))
 
 -- what holds for the octets so far holds for equal octets in which suffixes are compared
 pub names_there : {number : Octets → ℕ} {ms : List Placed} {limit a : ℕ} {b message : Octets}

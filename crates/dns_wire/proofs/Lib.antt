@@ -3,7 +3,6 @@ mod Runs
 mod FieldLemmas
 mod ReadLemmas
 mod ValidData
-mod NameLoop
 mod QueryName
 mod ChainLemmas
 mod SpelledLemmas

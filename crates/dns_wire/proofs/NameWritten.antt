@@ -1,7 +1,7 @@
 -- Once a name is laid out, it is one more earlier name: the message spells its suffixes, and their
 -- offsets are kept.
-use Rattle.dns_wire.proofs.Common.{◌≡◌, ℕ, zero, suc, ◌+◌, ◌-◌, ◌<◌, ◌≤◌, Bool, true, false, cond, nat_le, ◌⊎◌, inl, inr, List, [], ◌∷◌, ◌++◌, length, take, drop, replicate, slice_get, Option, None, Some, refl, sym, ap, ap₂, ◌∙◌, subst, arith, append_assoc, append-nil, length-append, and_parts, leb-true, none-some, same_Some, take-append-add, list_all, Octets, DomainName, wire, is_name, is_label, RunAt, ends, goes_on, jumps, Placed, has_suffix, suffix_place, place_of, last_place, shared_place, shared_octets, is_name-tail, Stands, begins_inside, suffix_from, suffix_to, place_again, place_pushed, shared_is, shared_to, shared_none, shared_whole, shared_pointed, shared_root, AfterLabel, Known, known_more, Kept, IsKept, front_size, pointed_offset, end_octets, new_offsets, Answers, Holds}
-use Rattle.dns_wire.proofs.SuffixLemmas.{Left, next_label, front-as, front-root, pointed-as, pointed-root, kept-as, kept-more, kept-root}
+use Rattle.dns_wire.proofs.Common.{◌≡◌, ℕ, zero, suc, ◌+◌, ◌-◌, ◌<◌, ◌≤◌, true, cond, nat_le, ◌⊎◌, inl, inr, List, [], ◌∷◌, ◌++◌, length, take, drop, replicate, slice_get, Option, None, Some, refl, sym, ap, ap₂, ◌∙◌, subst, arith, append_assoc, append-nil, length-append, length-take-le, and_parts, leb-true, none-some, take-append-add, list_all, Octets, DomainName, wire, is_name, is_label, RunAt, ends, goes_on, jumps, Placed, has_suffix, suffix_place, place_of, shared_place, shared_octets, is_name-tail, Stands, begins_inside, suffix_from, suffix_to, place_again, place_pushed, shared_is, shared_to, shared_none, shared_whole, shared_pointed, shared_root, AfterLabel, Known, known_more, Kept, IsKept, front_size, pointed_offset, end_octets, new_offsets, Answers, Holds}
+use Rattle.dns_wire.proofs.SuffixLemmas.{Left, next_label, front-as, front-root, pointed-as, pointed-root, kept-more}
 use Rattle.dns_spec.proofs.General.Places.{get_more, take_within}
 use Rattle.dns_spec.proofs.Layouts.SharedNames.{shared_some}
 
@@ -27,28 +27,21 @@ shared_cut ms (l ∷ n) = go (shared_place ms (l ∷ n)) refl (shared_cut ms n)
         shared_pointed ms l n p e ∙ ap₂ (λ k x. take k (wire (l ∷ n)) ++ end_octets x)
         (sym (front-as ms l n e)) (sym (pointed-as ms l n e))
 
+front_within : (ms : List Placed) (n : DomainName) → front_size ms n ≤ length (wire n)
+unfolding front_size
+front_within ms [] = omega (arith, front-root ms)
+front_within ms (l ∷ n) = grind (arith, front_size, (front_within ms n), length-append)
+
 -- the number of octets of a name's layout
 length-shared : (ms : List Placed) (n : DomainName) → length (shared_octets ms n)
     ≡ front_size ms n + length (end_octets (pointed_offset ms n))
-length-shared ms [] = grind (arith, shared_root, front-root, pointed-root)
-length-shared ms (l ∷ n) = go (shared_place ms (l ∷ n)) refl (length-shared ms n)
-  where
-    go : (x : Option ℕ) → shared_place ms (l ∷ n) ≡ x → length (shared_octets ms n)
-        ≡ front_size ms n + length (end_octets (pointed_offset ms n)) → length (shared_octets ms
-        (l ∷ n)) ≡ front_size ms (l ∷ n) + length (end_octets (pointed_offset ms (l ∷ n)))
-    go None e h = omega (
+length-shared ms n =
+    let front = take (front_size ms n) (wire n) in
+    omega (
       arith,
-      h,
-      ap length (shared_whole ms l n e),
-      length-append l (shared_octets ms n),
-      front-as ms l n e,
-      ap (λ x. length (end_octets x)) (pointed-as ms l n e),
-    )
-    go (Some p) e h = omega (
-      arith,
-      ap length (shared_pointed ms l n p e),
-      front-as ms l n e,
-      ap (λ x. length (end_octets x)) (pointed-as ms l n e),
+      ap length (shared_cut ms n),
+      length-append front (end_octets (pointed_offset ms n)),
+      length-take-le (front_size ms n) (wire n) (front_within ms n),
     )
 
 -- the layout of a name with a label has at least two octets
@@ -67,20 +60,8 @@ pub left_past : {head : Octets → ℕ} {b : Octets} {ks : List Kept} {name rest
 left_past {name = name} {rest} left a past ms n holds e ok =
     let x = left.all ms n holds e ok in
     let f = next_label x.left x.spelled x.is_name a in
-    let front = x.front in
     let two = at_least_two ms f.label f.labels (shared_place ms (f.label ∷ f.labels)) refl in
-    let short = left.shorter in
-    omega (
-      arith,
-      front,
-      past,
-      short,
-      two,
-      length-shared ms n,
-      length-shared ms x.left,
-      ap (λ p. length (end_octets p)) x.offset,
-      ap (λ m. length (shared_octets ms m)) f.whole,
-    )
+    grind (arith, length-shared)
 
 run_more : {b : Octets} {s i e : ℕ} {n : DomainName} (x : Octets)
     → RunAt b s i n e → RunAt (b ++ x) s i n e
@@ -104,11 +85,10 @@ pub kept_split : (ks more : List Kept) (p h : ℕ)
     → IsKept (ks ++ more) p h → IsKept ks p h ⊎ IsKept more p h
 kept_split [] more p h kept = inr kept
 kept_split (y ∷ ks) more p h (zero, at) = inl (zero, at)
-kept_split (y ∷ ks) more p h (suc k, at) = go (kept_split ks more p h (k, at))
-  where
-    go : IsKept ks p h ⊎ IsKept more p h → IsKept (y ∷ ks) p h ⊎ IsKept more p h
-    go (inl a) = inl (suc a.0, a.1)
-    go (inr b) = inr b
+kept_split (y ∷ ks) more p h (suc k, at) = elim (kept_split ks more p h (k, at)) [
+  | inl a ↦ inl (suc a.0, a.1)
+  | inr b ↦ inr b
+]
 
 -- the offset of each suffix that no earlier name has is kept, if a pointer reaches it
 pub kept_complete : (head : Octets → ℕ) (ms : List Placed) (n front : DomainName)
@@ -145,55 +125,34 @@ pub record NewSuffix (ms : List Placed) (n : DomainName) (i p : ℕ) : Type 0 wh
 
 pub kept_sound : (head : Octets → ℕ) (ms : List Placed) (n : DomainName) (i p h : ℕ)
     → IsKept (new_offsets head ms n i) p h → NewSuffix ms n i p
-kept_sound head ms [] i p h (k, at) =
-    absurd (none-some _ (ap (λ x. slice_get x k) (sym (kept-root head ms i)) ∙ at))
-kept_sound head ms (l ∷ n) i p h (k, at) = go (shared_place ms (l ∷ n)) refl
-    (nat_le i last_place) refl k at (λ j kept. kept_sound head ms n j p h kept)
-  where
-    go : (x : Option ℕ)
-        → shared_place ms (l ∷ n) ≡ x → (t : Bool) → nat_le i last_place ≡ t → (k : ℕ) → slice_get
-        (new_offsets head ms (l ∷ n) i) k ≡ Some (record { offset = p; number = h }) → ((j : ℕ)
-        → IsKept (new_offsets head ms n j) p h → NewSuffix ms n j p) → NewSuffix ms (l ∷ n) i p
-    go (Some q) e t r k at again =
-        absurd (none-some _ (ap (λ x. slice_get x k) (sym (kept-as head ms l n i e)) ∙ at))
-    go None e false r k at again =
-        absurd (none-some _ (ap (λ x. slice_get x k) (sym (kept-as head ms l n i e
-        ∙ ap (λ t. cond t (record { offset = i; number = head (wire (l ∷ n)) } ∷ new_offsets head ms
-        n
-        (i + 1 + length l)) []) r)) ∙ at))
-    go None e true r zero at again =
-        let low = leb-true i last_place r in
-        let first = ap (λ x. slice_get x 0) (sym (kept-more head ms l n i e low)) ∙ at in
-        let offset : i ≡ p = ap (λ (x : Kept). x.offset) (same_Some _ _ first) in
-        record {
-          label = l;
-          labels = n;
-          front = [];
-          whole = refl;
-          unshared = e;
-          distance = 0;
-          offset =
-              omega (arith, offset);
-          wire_length = omega arith;
-          low = omega (arith, offset, low);
-        }
-    go None e true r (suc k) at again =
-        let low = leb-true i last_place r in
-        let s = again (i + 1 + length l)
-        (k, ap (λ x. slice_get x (suc k)) (sym (kept-more head ms l n i e low)) ∙ at) in
-        let offset = s.offset in
-        let long = s.wire_length in
-        record {
-          label = s.label;
-          labels = s.labels;
-          front = l ∷ s.front;
-          whole = ap (λ x. l ∷ x) s.whole;
-          unshared = s.unshared;
-          distance = 1 + length l + s.distance;
-          offset = omega (arith, offset);
-          wire_length = omega (arith, long, length-append l (wire n));
-          low = s.low;
-        }
+unfolding new_offsets
+kept_sound head ms [] i p h (k, at) = absurd (none-some _ at)
+kept_sound head ms (l ∷ n) i p h (zero, at) = record {
+  label = l;
+  labels = n;
+  front = [];
+  whole = refl;
+  unshared = grind (arith, new_offsets);
+  distance = 0;
+  offset = grind (arith, new_offsets);
+  wire_length = omega arith;
+  low = grind (arith, new_offsets, leb-true);
+}
+kept_sound head ms (l ∷ n) i p h (suc k, at) =
+    let after : slice_get (new_offsets head ms n (i + 1 + length l)) k
+    ≡ Some (record { offset = p; number = h }) = grind (arith, new_offsets) in
+    let s = kept_sound head ms n (i + 1 + length l) p h (k, after) in
+    record {
+      label = s.label;
+      labels = s.labels;
+      front = l ∷ s.front;
+      whole = ap (λ x. l ∷ x) s.whole;
+      unshared = s.unshared;
+      distance = 1 + length l + s.distance;
+      offset = omega (arith, s.offset);
+      wire_length = omega (arith, s.wire_length, length-append l (wire n));
+      low = s.low;
+    }
 
 -- the offset of a suffix does not change if more names follow
 pub place_left : (ms more : List Placed) (s : DomainName) (p : ℕ)
@@ -204,13 +163,7 @@ place_left (k ∷ ms) more s p e = grind (arith, (place_left ms more s p))
 pub place_new : (ms : List Placed) (m : Placed) (s : DomainName) → place_of ms s ≡ None
     → has_suffix m.0 s ≡ true → place_of (ms ++ m ∷ []) s ≡ Some (suffix_place m s)
 place_new [] m s e is = ap (λ t. cond t (Some (suffix_place m s)) None) is
-place_new (k ∷ ms) m s e is = go (has_suffix k.0 s) e (λ f. place_new ms m s f is)
-  where
-    go : (t : Bool) → cond t (Some (suffix_place k s)) (place_of ms s) ≡ None
-        → (place_of ms s ≡ None → place_of (ms ++ m ∷ []) s ≡ Some (suffix_place m s))
-        → cond t (Some (suffix_place k s)) (place_of (ms ++ m ∷ []) s) ≡ Some (suffix_place m s)
-    go true f again = absurd (none-some (suffix_place k s) (sym f))
-    go false f again = again f
+place_new (k ∷ ms) m s e is = grind (arith, (place_new ms m s), none-some)
 
 pub is_name-suffix : (front s : DomainName) → is_name (front ++ s) ≡ true → is_name s ≡ true
 is_name-suffix [] s h = h
@@ -224,18 +177,15 @@ module _ (head : Octets → ℕ) (ms : List Placed) (b : Octets)
       complete : (l : Octets) (t : DomainName) (p : ℕ) → shared_place (ms ++ (n, length b) ∷ [])
           (l ∷ t) ≡ Some p → IsKept (ks ++ new_offsets head ms n (length b)) p (head (wire (l ∷ t)))
       complete l t p e = let here = shared_is (ms ++ (n, length b) ∷ []) (l ∷ t) p e in
-          go (place_pushed ms (n, length b) (l ∷ t) p here.0) here.1
-        where
-          go : (place_of ms (l ∷ t) ≡ Some p) ⊎ ((place_of ms (l ∷ t) ≡ None)
-              × (has_suffix n (l ∷ t) ≡ true) × (suffix_place (n, length b) (l ∷ t) ≡ p))
-              → p < 16384 → IsKept (ks ++ new_offsets head ms n (length b)) p (head (wire (l ∷ t)))
-          go (inl f) low = kept_left ks (new_offsets head ms n (length b)) p
-              (head (wire (l ∷ t))) (holds.answers.complete l t p (shared_to ms (l ∷ t) p f low))
-          go (inr f) low =
-              let s = suffix_from n (l ∷ t) f.1 in
-              let short = (begins_inside ms n s.front l t s.whole f.0).0 in
-              kept_right ks (new_offsets head ms n (length b)) p (head (wire (l ∷ t)))
-              (kept_complete head ms n s.front l t (length b) p s.whole f.0 short f.2 low)
+          elim (place_pushed ms (n, length b) (l ∷ t) p here.0) [
+            | inl f ↦ kept_left ks (new_offsets head ms n (length b)) p (head (wire (l ∷ t)))
+                (holds.answers.complete l t p (shared_to ms (l ∷ t) p f here.1))
+            | inr f ↦
+                let s = suffix_from n (l ∷ t) f.1 in
+                let short = (begins_inside ms n s.front l t s.whole f.0).0 in
+                kept_right ks (new_offsets head ms n (length b)) p (head (wire (l ∷ t)))
+                (kept_complete head ms n s.front l t (length b) p s.whole f.0 short f.2 here.1)
+          ]
 
       sound : (p h : ℕ)
           → IsKept (ks ++ new_offsets head ms n (length b)) p h → (l : Octets) × (t : DomainName)
@@ -323,18 +273,17 @@ module _ (head : Octets → ℕ) (ms : List Placed) (b : Octets)
 
       before : (l : Octets) (t : DomainName) (p : ℕ) → place_of
           (ms ++ (n, length b) ∷ []) (l ∷ t) ≡ Some p → p < length (b ++ shared_octets ms n)
-      before l t p e = go (place_pushed ms (n, length b) (l ∷ t) p e)
-        where
-          go : (place_of ms (l ∷ t) ≡ Some p) ⊎ ((place_of ms (l ∷ t) ≡ None)
-              × (has_suffix n (l ∷ t) ≡ true) × (suffix_place (n, length b) (l ∷ t) ≡ p))
-              → p < length (b ++ shared_octets ms n)
-          go (inl f) = let old =
-              holds.before l t p f in omega (arith, old, length-append b (shared_octets ms n))
-          go (inr f) =
-              let s = suffix_from n (l ∷ t) f.1 in
-              let inside = (begins_inside ms n s.front l t s.whole f.0).1 in
-              let at = f.2 in
-              omega (arith, inside, at, length-append b (shared_octets ms n))
+      before l t p e =
+          elim (place_pushed ms (n, length b) (l ∷ t) p e) [
+            | inl f ↦
+                let old = holds.before l t p f in
+                omega (arith, old, length-append b (shared_octets ms n))
+            | inr f ↦
+                let s = suffix_from n (l ∷ t) f.1 in
+                let inside = (begins_inside ms n s.front l t s.whole f.0).1 in
+                let at = f.2 in
+                omega (arith, inside, at, length-append b (shared_octets ms n))
+          ]
 
 -- appending octets that are not a name changes nothing
 pub holds_octets : {head : Octets → ℕ} {ms : List Placed} {b : Octets} {ks : List Kept} (x : Octets)

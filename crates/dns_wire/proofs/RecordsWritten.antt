@@ -1,5 +1,5 @@
 -- Records are written one after another.
-use Rattle.dns_wire.proofs.Common.{◌≡◌, ℕ, ◌+◌, ◌*◌, ◌<◌, ◌≤◌, Bool, true, false, List, [], ◌∷◌, ◌++◌, length, take, drop, get_or, refl, sym, ap, ap₂, ◌∙◌, subst, subst₂, arith, add-zero, map, append_assoc, append-nil, length-append, take-append-drop, length-map, get_or-map, take_more, take_all, Octets, DomainName, ResourceRecord, RecordSet, records_at, laid_parts, Placed, Laid, laid_front, shared_octets, data_laid, record_laid, record_tail, records_octets, records_by, length-record_tail, shown, records_laid, PartialMessage, HasNames, Writes, WritesAfter, IsLaid, IsLaidAs, Form, form_again, ◌==◌, OnTrue, false≢true, ne_eqb, zero, suc}
+use Rattle.dns_wire.proofs.Common.{◌≡◌, ℕ, ◌+◌, ◌*◌, ◌<◌, ◌≤◌, Bool, true, false, List, [], ◌∷◌, ◌++◌, length, take, drop, get_or, refl, sym, ap, ap₂, ◌∙◌, subst, subst₂, arith, add-zero, map, append_assoc, append-nil, length-append, take-append-drop, length-map, get_or-map, take_more, take_all, Octets, DomainName, ResourceRecord, RecordSet, records_at, Placed, Laid, laid_front, record_laid, records_octets, records_by, length-record_tail, shown, records_laid, PartialMessage, HasNames, Writes, WritesAfter, IsLaid, IsLaidAs, Form, form_again, ◌==◌, OnTrue, false≢true, ne_eqb, zero, suc}
 use Rattle.dns_wire.proofs.LaidAgain.{laid_again}
 use Rattle.dns_wire.proofs.Steps.{writes_as, writes_both, writes_past, both_laid}
 
@@ -29,19 +29,8 @@ pub records_split : (rs ss : List ResourceRecord) (ms : List Placed) (p : ℕ)
 records_split [] ss ms p = grind (arith, records_none, ap₂, append-nil, add-zero)
 records_split (r ∷ rs) ss ms p =
     let l = record_laid ms p r in
-    let later = ms ++ l.names in
-    let offset = p + length l.written in
-    let rest = records_laid rs later offset in
-    let more = records_laid ss (later ++ rest.names) (offset + length rest.written) in
-    let at : p + length (l.written ++ rest.written) ≡ offset + length rest.written =
-    omega (arith, length-append l.written rest.written) in
-    ap (λ (x : Laid). laid_front x.written x.names
-    (records_laid ss (ms ++ x.names) (p + length x.written))) (records_more ms p r rs)
-    ∙ ap (λ (x : Laid). laid_front (l.written ++ rest.written) (l.names ++ rest.names) x)
-    (ap₂ (λ m k. records_laid ss m k) (sym (append_assoc ms l.names rest.names)) at) ∙ ap₂ (λ
-    w n. record { written = w; names = n }) (append_assoc l.written rest.written more.written)
-    (append_assoc l.names rest.names more.names) ∙ ap (λ (x : Laid). laid_front l.written
-    l.names x) (records_split rs ss later offset) ∙ sym (records_more ms p r (rs ++ ss))
+    let again = records_split rs ss (ms ++ l.names) (p + length l.written) in
+    grind (arith, records_more, again, append_assoc, length-append)
 
 record_alone : (r : ResourceRecord) (ms : List Placed) (p : ℕ)
     → record_laid ms p r ≡ records_laid (r ∷ []) ms p
@@ -53,18 +42,8 @@ records_long : (ms : List Placed) (p : ℕ) (rs : List ResourceRecord)
 records_long ms p [] = omega arith
 records_long ms p (r ∷ rs) =
     let l = record_laid ms p r in
-    let more = ms ++ l.names in
-    let offset = p + length l.written in
-    let owner = shared_octets ms r.owner in
-    let d = (data_laid
-    (ms ++ (r.owner, p) ∷ []) (p + length owner + 10) (laid_parts r.rtype r.rdata)).written in
-    let rest = (records_laid rs more offset).written in
-    let whole : length (records_laid (r ∷ rs) ms p).written ≡ length l.written + length rest = ap
-    (λ (x : Laid). length x.written) (records_more ms p r rs) ∙ length-append l.written rest in
-    let own : length l.written ≡ length owner + (10 + length d) = length-append owner
-    (record_tail r d) ∙ ap (λ k. length owner + k) (length-record_tail r d) in
-    let others = records_long more offset rs in
-    omega (arith, whole, own, others)
+    let again = records_long (ms ++ l.names) (p + length l.written) rs in
+    grind (arith, records_more, again, length-append, length-record_tail)
 
 pub set_long : (owner : DomainName) (ttl : ℕ) (set : RecordSet) (ms : List Placed) (p : ℕ)
     → 10 * length set.rdata ≤ length (records_laid (records_at owner ttl set) ms p).written
@@ -78,10 +57,8 @@ record_taken owner ttl set i inside =
     let show = λ (d : Octets). shown owner set.rtype ttl d in
     let rs = records_at owner ttl set in
     let count : length rs ≡ length set.rdata = length-map set.rdata show in
-    let at : get_or rs i (show []) ≡ show (get_or set.rdata i []) =
-    get_or-map show set.rdata i [] (show []) inside in
-    ap (λ x. take i rs ++ x ∷ []) (sym at)
-    ∙ sym (take_more rs i (show []) (omega (arith, inside, count)))
+    sym (take_more rs i (show []) (omega (arith, inside, count))
+    ∙ ap (λ x. take i rs ++ x ∷ []) (get_or-map show set.rdata i [] (show []) inside))
 
 pub all_taken : (owner : DomainName) (ttl : ℕ) (set : RecordSet) (i : ℕ)
     → length set.rdata ≤ i → take i (records_at owner ttl set) ≡ records_at owner ttl set

@@ -16,12 +16,21 @@ end_or end e = unwrap_or end e
 pub record IsReading (b : Octets) (at : ℕ) (n : DomainName) (s i : ℕ)
     (end : Option ℕ) : Type 0 where
   pub is_name : IsTrue (is_name n)
-  pub within : i ≤ length b
   pub end_within : IfSome end (λ e. e ≤ length b)
   pub forth : (m : DomainName) (e : ℕ) → RunAt b s i m e → RunAt b at at (n ++ m) (end_or end e)
   pub faults : (f : ℕ) → RunFault b n s i f → NameFault b at f
   pub back : (w : DomainName) (f : ℕ) → RunAt b at at w f
       → (m : DomainName) × (e : ℕ) × RunAt b s i m e × (w ≡ n ++ m) × (f ≡ end_or end e)
+
+-- nothing is read yet
+pub reading_begins : (b : Octets) (at : ℕ) → IsReading b at [] at at None
+reading_begins b at = record {
+  is_name = refl;
+  end_within = tt;
+  forth = λ m e run. run;
+  faults = λ f fault. fault;
+  back = λ w f run. (w, f, run, refl, refl);
+}
 
 -- how a run continues from offset i: with its end, a label, or a pointer
 pub data GoesOn (b : Octets) (s i : ℕ) (n : DomainName) (e : ℕ) : Type 0 where
@@ -56,7 +65,7 @@ goes_on_at {b} {s} (goes_on i k l n e at some short within is rest) =
 goes_on_at (jumps i o o' p n e at high at' is from before rest) =
     at_pointer p e (pointer_there at high at' is from before) refl rest
 
-there_is : (b : Octets) (i k : ℕ) → i < length b → get_or b i 0 ≡ k → slice_get b i ≡ Some k
+pub there_is : (b : Octets) (i k : ℕ) → i < length b → get_or b i 0 ≡ k → slice_get b i ≡ Some k
 there_is b i k inside e = slice_get-get_or b i 0 inside ∙ ap Some e
 
 -- a label follows its length
@@ -64,6 +73,17 @@ pub label_stands : (b l : Octets) (i k : ℕ) → i < length b → get_or b i 0 
     → 0 < k → k < 64 → k ≤ length (drop (i + 1) b) → l ≡ take k (drop (i + 1) b) → LabelAt b i l
 label_stands b l i k inside e some short within is = (label_there (there_is b i k inside e)
     some short (omega (arith, inside, within, length-drop (i + 1) b)) is).1
+
+-- a run goes on within the octets
+pub run_inside : {b : Octets} {s i e : ℕ} {n : DomainName} → RunAt b s i n e → i < length b
+run_inside {b} (ends i at) = slice_get_within b i 0 at
+run_inside {b} (goes_on i k l n e at some short within is rest) = slice_get_within b i k at
+run_inside {b} (jumps i o o' p n e at high at' is from before rest) = slice_get_within b i o at
+
+-- no pointer leads to an offset between the header and a run that begins after it
+pub no_pointer : (b : Octets) (i k : ℕ)
+    → i < length b → get_or b i 0 ≡ k → 64 ≤ k → NoRunAt b 12 i
+no_pointer b i k inside is high n e run = grind (arith, there_is)
 
 -- what the octet at an offset determines about the run
 module _ (b : Octets) (s i k : ℕ) (inside : i < length b) (is : get_or b i 0 ≡ k) where
@@ -105,7 +125,6 @@ pub reading_label : {b : Octets} {at s i : ℕ} {n : DomainName} {end : Option �
     → is_name (n ++ l ∷ []) ≡ true → IsReading b at (n ++ l ∷ []) s (i + (1 + length l)) end
 reading_label {b} {at} {s} {i} {n} {end} l reading there ok = record {
   is_name = ok;
-  within = omega (arith, there.within);
   end_within = reading.end_within;
   faults = λ f fault. reading.faults f (labelled i (length l) l f there.length_there there.some
       there.short there.within there.label ok (subst (λ j. RunFault b (n ++ l ∷ []) s j f) next
@@ -122,8 +141,7 @@ reading_label {b} {at} {s} {i} {n} {end} l reading there ok = record {
     go : (w : DomainName) (f : ℕ) (m : DomainName) (e : ℕ)
         → w ≡ n ++ m → f ≡ end_or end e → GoesOn b s i m e → (m : DomainName) × (e : ℕ)
         × RunAt b s (i + (1 + length l)) m e × (w ≡ (n ++ l ∷ []) ++ m) × (f ≡ end_or end e)
-    go w f m e p q (at_end root none end) =
-        absurd (omega (arith, same_Some (length l) 0 (sym there.length_there ∙ root), there.some))
+    go w f m e p q (at_end root none end) = absurd (grind (arith, same_Some))
     go w f m e p q (at_label k rest label shape run) = grind (arith, same_Some, append_assoc, next)
     go w f m e p q (at_pointer offset d pointer end run) = grind arith
 
@@ -137,8 +155,7 @@ label_too_long {b} {at} {s} {i} {n} {end} l reading there long =
   where
     go : (w : DomainName) → is_name w ≡ true → (m : DomainName) (e : ℕ)
         → w ≡ n ++ m → GoesOn b s i m e → ⊥
-    go w short m e p (at_end root none end) =
-        omega (arith, same_Some (length l) 0 (sym there.length_there ∙ root), there.some)
+    go w short m e p (at_end root none end) = grind (arith, same_Some)
     go w short m e p (at_label k rest label shape run) =
         let as_long : length l ≡ length k =
         same_Some (length l) (length k) (sym there.length_there ∙ label.length_there) in
@@ -158,7 +175,6 @@ pub reading_jumps : {b : Octets} {at s i p : ℕ} {n : DomainName} {end : Option
     n s i end → PointerAt b s i p → s ≤ length b → IsReading b at n p p (Some (end_or end (i + 2)))
 reading_jumps {b} {at} {s} {i} {p} {n} {end} reading there inside = record {
   is_name = reading.is_name;
-  within = omega (arith, there.before_run);
   end_within = end_fits b end (i + 2) reading.end_within
       (omega (arith, slice_get_within b (i + 1) there.second there.second_there));
   faults = λ f fault. reading.faults f (pointed i there.first there.second p f there.first_there
@@ -172,8 +188,7 @@ reading_jumps {b} {at} {s} {i} {p} {n} {end} reading there inside = record {
     go : (w : DomainName) (f : ℕ) (m : DomainName) (e : ℕ)
         → w ≡ n ++ m → f ≡ end_or end e → GoesOn b s i m e
         → (m : DomainName) × (e : ℕ) × RunAt b p p m e × (w ≡ n ++ m) × (f ≡ end_or end (i + 2))
-    go w f m e q r (at_end root none is) =
-        absurd (omega (arith, same_Some there.first 0 (sym there.first_there ∙ root), there.high))
+    go w f m e q r (at_end root none is) = absurd (grind (arith, same_Some))
     go w f m e q r (at_label k rest label shape run) = grind arith
     go w f m e q r (at_pointer offset d pointer is run) = grind arith
 

@@ -17,10 +17,8 @@ spelled_end {b} {s} {i} {o} root =
   where
     back : (n : DomainName) (e : ℕ) → wire n ≡ o → GoesOn b s i n e → o ≡ 0 ∷ []
     back n e w (at_end there none end) = sym w ∙ ap wire none
-    back n e w (at_label l m there shape rest) =
-        absurd (omega (arith, same_Some (length l) 0 (sym there.length_there ∙ root), there.some))
-    back n e w (at_pointer p d there end rest) =
-        absurd (omega (arith, same_Some there.first 0 (sym there.first_there ∙ root), there.high))
+    back n e w (at_label l m there shape rest) = absurd (grind (arith, same_Some))
+    back n e w (at_pointer p d there end rest) = absurd (grind (arith, same_Some))
 
 -- octets are spelled from a label on if and only if they are the label, followed by what is spelled
 -- after it
@@ -43,8 +41,7 @@ spelled_label {b} {s} {i} {o} {after} l there is = (forth, λ h. back h.0 h.1 h.
 
     back : (n : DomainName) (e : ℕ)
         → wire n ≡ o → GoesOn b s i n e → SpelledFrom b s (i + (1 + length l)) after
-    back n e w (at_end root none end) =
-        absurd (omega (arith, same_Some (length l) 0 (sym there.length_there ∙ root), there.some))
+    back n e w (at_end root none end) = absurd (grind (arith, same_Some))
     back n e w (at_label k m label shape run) =
         let long : length k ≡ length l =
         same_Some (length k) (length l) (sym label.length_there ∙ there.length_there) in
@@ -74,8 +71,7 @@ spelled_jump {b} {s} {i} {p} {o} there = (forth, λ h. back h.0 h.1 h.3 (goes_on
     )
 
     back : (n : DomainName) (e : ℕ) → wire n ≡ o → GoesOn b s i n e → SpelledFrom b p p o
-    back n e w (at_end root none end) =
-        absurd (omega (arith, same_Some there.first 0 (sym there.first_there ∙ root), there.high))
+    back n e w (at_end root none end) = absurd (grind (arith, same_Some))
     back n e w (at_label k m label shape run) = absurd (grind (arith, same_Some))
     back n e w (at_pointer q d pointer end run) = grind arith
 

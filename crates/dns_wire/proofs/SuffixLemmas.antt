@@ -1,6 +1,6 @@
 -- The offset found for a suffix is the offset at which it is shared, and the offsets kept of a name
 -- are exactly those that later names may share.
-use Rattle.dns_wire.proofs.Common.{◌≡◌, ℕ, zero, suc, ◌+◌, ◌-◌, ◌*◌, ◌<◌, ◌≤◌, Bool, true, false, cond, nat_le, List, [], ◌∷◌, ◌++◌, length, take, drop, get_or, Option, None, Some, refl, sym, ap, ap₂, ◌∙◌, subst, arith, append_assoc, append-nil, length-append, drop_at, le-leb, leb-true, same_Some, Octets, DomainName, wire, is_name, RunAt, Placed, last_place, shared_place, ends, goes_on, jumps, length-drop, label_parts, is_name-tail, is_label-head, wire-injective, pointer_place, Kept, HasOffset, SpelledAt, SpellsSuffix, NoneSpelled, AfterLabel, front_size, pointed_offset, new_offsets, Holds, Follows}
+use Rattle.dns_wire.proofs.Common.{◌≡◌, ℕ, ◌+◌, ◌-◌, ◌*◌, ◌<◌, ◌≤◌, true, cond, nat_le, List, [], ◌∷◌, ◌++◌, length, take, drop, get_or, Option, None, Some, refl, sym, ap, ap₂, ◌∙◌, subst, arith, append_assoc, append-nil, length-append, drop_at, le-leb, lt-leb, same_Some, Octets, DomainName, wire, is_name, RunAt, Placed, last_place, shared_place, ends, goes_on, jumps, length-drop, label_parts, is_name-tail, is_label-head, wire-injective, pointer_place, Kept, HasOffset, SpelledAt, SpellsSuffix, NoneSpelled, AfterLabel, front_size, pointed_offset, new_offsets, Holds, Follows}
 use Rattle.dns_wire.proofs.Runs.{GoesOn, at_end, at_label, at_pointer, goes_on_at}
 
 -- how a name is laid out, depending on the offset at which the whole name is shared, if it is
@@ -29,10 +29,8 @@ pointed-root ms = refl
 one_from : {b : Octets} {s i e f : ℕ} {n m : DomainName}
     → RunAt b s i n e → GoesOn b s i m f → n ≡ m
 one_from (ends i at) (at_end root none end) = sym none
-one_from (ends i at) (at_label l m there shape run) =
-    absurd (omega (arith, same_Some (length l) 0 (sym there.length_there ∙ at), there.some))
-one_from (ends i at) (at_pointer q d there end run) =
-    absurd (omega (arith, same_Some there.first 0 (sym there.first_there ∙ at), there.high))
+one_from (ends i at) (at_label l m there shape run) = absurd (grind (arith, same_Some))
+one_from (ends i at) (at_pointer q d there end run) = absurd (grind (arith, same_Some))
 one_from (goes_on i k l n e at some short within is rest) (at_end root none end) =
     absurd (omega (arith, same_Some k 0 (sym at ∙ root), some))
 one_from {b}
@@ -42,11 +40,11 @@ one_from {b}
     ap₂ (λ x y. x ∷ y) same
     (one_from rest (goes_on_at (subst (λ j. RunAt b s (i + 1 + j) m f) long run))) ∙ sym shape
 one_from (goes_on i k l n e at some short within is rest) (at_pointer q d there end run) =
-    absurd (omega (arith, same_Some k there.first (sym at ∙ there.first_there), short, there.high))
+    absurd (grind (arith, same_Some))
 one_from (jumps i o o' p n e at high at' is from before rest) (at_end root none end) =
     absurd (omega (arith, same_Some o 0 (sym at ∙ root), high))
 one_from (jumps i o o' p n e at high at' is from before rest) (at_label l m there shape run) =
-    absurd (omega (arith, same_Some (length l) o (sym there.length_there ∙ at), there.short, high))
+    absurd (grind (arith, same_Some))
 one_from {b}
     {m = m} (jumps i o o' p n e at high at' is from before rest) (at_pointer q d there end run) =
     let one = same_Some there.first o (sym there.first_there ∙ at) in
@@ -156,13 +154,10 @@ pub left_root : {head : Octets → ℕ} {b : Octets} {ks : List Kept} {name rest
     → rest ≡ wire m → is_name m ≡ true → m ≡ []) → Holds head ms b ks → name ≡ wire n
     → is_name n ≡ true → (front_size ms n ≡ length name - length rest) × (pointed_offset ms n
     ≡ None)
-left_root {name = name} {rest} ms n left root holds e ok =
+left_root ms n left root holds e ok =
     let a = left.all ms n holds e ok in
     let none = root a.left a.spelled a.is_name in
-    let front = a.front in (
-      omega (arith, front, ap (front_size ms) none, front-root ms),
-      a.offset ∙ ap (pointed_offset ms) none ∙ pointed-root ms,
-    )
+    grind (arith, front-root, pointed-root)
 
 pub left_found : {head : Octets → ℕ} {b : Octets} {ks : List Kept}
     {name rest : Octets} (p : ℕ) (ms : List Placed) (n : DomainName) → Left head b ks name rest
@@ -195,28 +190,21 @@ module _ (head : Octets → ℕ) (ms : List Placed) (l : Octets) (n : DomainName
   kept-more e low = kept-as e ∙ ap (λ t. cond t (record { offset = p; number = head (wire (l ∷ n)) }
       ∷ new_offsets head ms n (p + 1 + length l)) []) (le-leb p last_place low)
 
-  -- nothing is kept beyond the reach of a pointer, or after a shared suffix
-  pub kept-high : last_place < p → new_offsets head ms (l ∷ n) p ≡ []
-  kept-high high = go (shared_place ms (l ∷ n)) refl (nat_le p last_place) refl
-    where
-      go : (x : Option ℕ) → shared_place ms (l ∷ n) ≡ x
-          → (t : Bool) → nat_le p last_place ≡ t → new_offsets head ms (l ∷ n) p ≡ []
-      go None e true q = absurd (let low = leb-true p last_place q in omega (arith, low, high))
-      go None e false q = kept-as e
-          ∙ ap (λ t. cond t (record { offset = p; number = head (wire (l ∷ n)) } ∷ new_offsets
-          head ms n (p + 1 + length l)) []) q
-      go (Some r) e t q = kept-as e
-
-  kept-shared : front_size ms (l ∷ n) < 1 + length l → new_offsets head ms (l ∷ n) p ≡ []
-  kept-shared short = go (shared_place ms (l ∷ n)) refl
-    where
-      go : (x : Option ℕ) → shared_place ms (l ∷ n) ≡ x → new_offsets head ms (l ∷ n) p ≡ []
-      go None e = absurd (omega (arith, short, front-as ms l n e))
-      go (Some r) e = kept-as e
+  -- nothing is kept after a shared suffix
+  pub kept-shared : front_size ms (l ∷ n) < 1 + length l → new_offsets head ms (l ∷ n) p ≡ []
+  unfolding new_offsets front_size
+  kept-shared short = grind (arith, new_offsets, front_size)
 
 pub kept-root : (head : Octets → ℕ) (ms : List Placed) (p : ℕ) → new_offsets head ms [] p ≡ []
 unfolding new_offsets
 kept-root head ms p = refl
+
+-- nothing is kept beyond the reach of a pointer
+pub kept-high : (head : Octets → ℕ) (ms : List Placed) (n : DomainName) (p : ℕ) → last_place < p
+    → new_offsets head ms n p ≡ []
+unfolding new_offsets
+kept-high head ms [] p high = refl
+kept-high head ms (l ∷ n) p high = grind (arith, new_offsets, lt-leb)
 
 -- The part of a name whose offsets are left to keep.
 pub record KeepOf (head : Octets → ℕ) (ms : List Placed)
@@ -242,46 +230,21 @@ pub keep_label : {head : Octets → ℕ} {old ks : List Kept} {name rest after :
     {front at offset : ℕ} (k h : ℕ) → Keep head old ks name rest front at offset → AfterLabel
     rest k after → offset + 1 + k ≤ at + front → offset ≤ last_place → h ≡ head rest → Keep head old
     (ks ++ record { offset = offset; number = h } ∷ []) name after front at (offset + 1 + k)
-keep_label {head} {old} {ks} {name} {rest} {after} {front} {at} {offset} k h keep a room low number
-    =
-    record {
-      few = let f = keep.few in
-          let positive = pos k a.some in omega (arith, f, positive, length-append ks (one ∷ []));
-      within = room;
-      all = λ ms n e ok f. let x = keep.all ms n e ok f in let g = next_label
-          x.left x.spelled x.is_name a in go ms n x g (shared_place ms (g.label ∷ g.labels)) refl;
-    }
-  where
-    one : Kept
-    one = record { offset = offset; number = h }
-
-    pos : (j : ℕ) → (j ≡ 0 → ⊥) → 1 ≤ j
-    pos zero not_zero = absurd (not_zero refl)
-    pos (suc j) not_zero = omega arith
-
-    go : (ms : List Placed) (n : DomainName) (x : KeepOf head ms old ks rest front at offset n)
-        (g : NextLabel x.left rest after k) → (s : Option ℕ) → shared_place ms (g.label ∷ g.labels)
-        ≡ s → KeepOf head ms old (ks ++ one ∷ []) after front at (offset + 1 + k) n
-    go ms n x g (Some r) q = absurd (let fit = x.fits in
-        omega (arith, fit, room, ap (front_size ms) g.whole, front-as ms g.label g.labels q))
-    go ms n x g None q =
-        let named : record { offset = offset; number = head (wire (g.label ∷ g.labels)) } ≡ one =
-        ap (λ j. record { offset = offset; number = j }) (ap head (sym g.before) ∙ sym number) in
-        let next : offset + 1 + length g.label ≡ offset + 1 + k =
-        ap (λ j. offset + 1 + j) (sym g.long) in
-        let more = kept-more head ms g.label g.labels offset q low
-        ∙ ap₂ (λ (y : Kept) j. y ∷ new_offsets head ms g.labels j) named next in
-        let fit = x.fits in
-        record {
-          left = g.labels;
-          spelled = g.spelled;
-          is_name = g.is_name;
-          kept = x.kept ∙ ap (λ y. ks ++ new_offsets head ms y offset) g.whole ∙ ap (λ y. ks ++ y)
-              more ∙ sym (append_assoc ks (one ∷ []) (new_offsets head ms g.labels (offset + 1
-              + k)));
-          fits = omega
-              (arith, fit, ap (front_size ms) g.whole, front-as ms g.label g.labels q, g.long);
-        }
+unfolding new_offsets front_size
+keep_label {head} {old} {ks} {offset = offset} k h keep a room low number = record {
+  few = grind (arith, keep.few, a.some, length-append);
+  within = room;
+  all = λ ms n e ok f.
+      let x = keep.all ms n e ok f in
+      let g = next_label x.left x.spelled x.is_name a in
+      record {
+        left = g.labels;
+        spelled = g.spelled;
+        is_name = g.is_name;
+        kept = grind (arith, new_offsets, front_size, le-leb, append_assoc);
+        fits = grind (arith, front_size);
+      };
+}
 
 -- when the loop ends, nothing is left to keep
 pub keep_root : {head : Octets → ℕ} {old ks : List Kept} {name rest : Octets} {front at offset : ℕ}
@@ -297,11 +260,7 @@ pub keep_high : {head : Octets → ℕ} {old ks : List Kept} {name rest : Octets
     → is_name n ≡ true → front ≡ front_size ms n → ks ≡ old ++ new_offsets head ms n at
 keep_high {head} {old} {ks} {offset = offset} keep high ms n e ok f =
     let a = keep.all ms n e ok f in
-    sym (a.kept ∙ ap (λ x. ks ++ x) (none a.left) ∙ append-nil ks)
-  where
-    none : (m : DomainName) → new_offsets head ms m offset ≡ []
-    none [] = kept-root head ms offset
-    none (l ∷ m) = kept-high head ms l m offset high
+    sym (a.kept ∙ ap (λ x. ks ++ x) (kept-high head ms a.left offset high) ∙ append-nil ks)
 
 pub keep_past : {head : Octets → ℕ} {old ks : List Kept} {name rest after : Octets}
     {front at offset : ℕ} (k : ℕ) → Keep head old ks name rest front at offset → AfterLabel
@@ -310,11 +269,7 @@ pub keep_past : {head : Octets → ℕ} {old ks : List Kept} {name rest after : 
 keep_past {head} {old} {ks} {offset = offset} k keep a past ms n e ok f =
     let x = keep.all ms n e ok f in
     let g = next_label x.left x.spelled x.is_name a in
-    let fit = x.fits in
-    let none = kept-shared head ms g.label g.labels offset
-    (omega (arith, fit, past, g.long, ap (front_size ms) g.whole)) in
-    sym (x.kept ∙ ap (λ x. ks ++ new_offsets head ms x offset) g.whole
-    ∙ ap (λ x. ks ++ x) none ∙ append-nil ks)
+    grind (arith, kept-shared, append-nil)
 
 -- no offset is kept of a name that is only a pointer
 pub keep_none : (head : Octets → ℕ) (ms : List Placed) (n : DomainName) (at : ℕ) (ks : List Kept)

@@ -10,7 +10,7 @@ use Rattle.dns_spec.specs.Layout.{Item, Placed, Laid, records_of, in_section, is
 use Rattle.dns_spec.specs.Laws.{IsAskable}
 use Rattle.dns_wire.specs.Kept.{Kept}
 use Rattle.dns_wire.specs.SuffixNumbers.{suffix_number}
-use Rattle.dns_wire.specs.Writing.{IsAsked, asked_offsets, Holds, StandsIn, Follows, Layout, records_laid}
+use Rattle.dns_wire.specs.Writing.{IsAsked, asked_offsets, Holds, Follows, Layout, records_laid}
 use Rattle.dns_wire.specs.declared.message.Counts.{Counts}
 use Rattle.dns_wire.specs.declared.message_builder.Section.{Section}
 use Rattle.dns_wire.specs.declared.message_builder.Section.TheVariants.{Answer, Authority, Additional}
@@ -105,7 +105,7 @@ pub record IsWritten (number : Octets → ℕ) (ms : List Placed) (old new : Par
   pub written : OnTrue fits (new.octets ≡ old.octets ++ laid.written)
   pub stands : OnTrue fits ((x : Octets) → length x ≡ length old.octets
       → Holds number ms x (known_offsets number old)
-      → StandsIn number ms x laid (known_offsets number new))
+      → Holds number (ms ++ laid.names) (x ++ laid.written) (known_offsets number new))
 
 -- A step that writes what `layout` gives after the names so far, provided that `known` holds for
 -- them. The caller's hash gives the same numbers before and after the step.

@@ -119,11 +119,6 @@ pub record Holds (number : Octets → ℕ) (ms : List Placed) (b : Octets) (ks :
   pub after_header : 12 ≤ length b
   pub answers : Answers number ms ks
 
--- `Holds` for the octets b followed by what is laid out, and for the names `ms` followed by its
--- names
-abbrev pub StandsIn : (Octets → ℕ) → List Placed → Octets → Laid → List Kept → Type 0
-StandsIn number ms b laid ks = Holds number (ms ++ laid.names) (b ++ laid.written) ks
-
 -- ys is xs with more elements at the end
 pub record Follows {A : Type 0} (xs ys : List A) : Type 0 where
   pub more : List A

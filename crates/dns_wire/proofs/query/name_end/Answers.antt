@@ -18,8 +18,8 @@ returns-then-length-gt-MOST_LABEL-clause-none c _ =
           ends_high _ _ c.labels.invariant c.labels-test.true _ refl c.if-length-eq0.false
           (omega (arith, w.if-length-gt-MOST_LABEL.true))
       | then-length-gt-MOST_LABEL-via-else-length-gt-MOST_LABEL+then-next-datagram w ↦
-          ends_past _ _ c.labels.invariant
-          c.labels-test.true _ refl c.if-length-eq0.false w.if-next-datagram.true
+          ends_past _ _ c.labels.invariant c.labels-test.true _ refl c.if-length-eq0.false
+          (omega (arith, w.if-length-gt-MOST_LABEL.false)) w.if-next-datagram.true
       | then-length-gt-MOST_LABEL-via-else-length-gt-MOST_LABEL+else-next-datagram+then-next-gt-LAST_ROOT
           w ↦ ends_long _ _ c.labels.invariant c.labels-test.true _ refl c.if-length-eq0.false
           (omega (arith, w.if-length-gt-MOST_LABEL.false))
