@@ -1,22 +1,22 @@
 -- Re-exports the names that most proofs use. Declares nothing.
-pub use Rattle.dns_spec.proofs.Common.{Appends, Appends-nil, Appends-trans, Bool, Consumes, Consumes-trans, DnsMessage, DomainName, Err, Fault, FileFault, IfErr, IfSome, IsAtEnd, IsErrAnd, Keeps, List, MatchOption, Meaning, MessageQuestion, MessageRecord, None, Octets, Ok, OnFalse, OnTrue, Option, Options, PrintsMessage, Report, ResourceRecord, Result, Some, ZoneContents, [], add-one, agree_below_at, ap, append-nil, append_assoc, ap₂, are_messages, arith, cases_Bool, cases_lt, codes, decimal, digit_char, digit_value, distinct, drop, drop-cons, drop_all, ended_lines, eq-eqb, eqb-false, eqb-true, false, false≢true, fault_at, fault_code, fault_report, filter, filter-append, flat_map, flat_map-append, folded, get_or, hex_text, if◌then◌else◌, inl, inr, is_ascii_hexdigit, is_some, le-leb, le-ltb, length, length-append, length-drop, length-take, length-take-le, line_answers, line_ends, line_message, list_all-append, lt-leb, lt-ltb, ltb-false, ltb-true, message_answer, name_text, nat_lt, ne_eqb, octets16, option_map, passing, question_line, records, records_equal, refl, report_of_faults, report_of_meaning, rules, section_line, set, subst, suc, sym, take, take-append-add, take-append-drop, take-append-le, take_all, take_more, true, type_text, zero, zone_of, zone_report, zone_serial, ℕ, ⊤, ◌%◌, ◌&&◌, ◌*◌, ◌++◌, ◌+◌, ◌-◌, ◌/◌, ◌<◌, ◌==◌, ◌^◌, ◌∙◌, ◌∷◌, ◌≡◌, ◌≢◌, ◌≤◌, ◌⊎◌}
-unfoldable pub use Rattle.dns_spec.proofs.Common.{data_text, faults, hex_octets, lines}
+pub use Rattle.dns_spec.proofs.Common.{Appends, Appends-nil, Appends-trans, Bool, Consumes, Consumes-trans, DnsMessage, DomainName, Err, Fault, IfErr, IsAtEnd, IsErrAnd, Keeps, List, MatchOption, Meaning, None, Octets, Ok, OnFalse, OnTrue, Option, Options, PrintsMessage, Report, ResourceRecord, Result, Some, ZoneContents, [], add-one, agree_below_at, ap, append-nil, append_assoc, ap₂, are_messages, arith, cases_Bool, cases_lt, codes, decimal, digit_char, digit_value, distinct, drop, drop-cons, drop_all, ended_lines, eq-eqb, eqb-false, eqb-true, false, false≢true, fault_at, fault_code, fault_report, filter, filter-append, flat_map, flat_map-append, folded, get_or, hex_text, if◌then◌else◌, inl, inr, is_ascii_hexdigit, is_some, le-leb, length, length-append, length-drop, length-take, length-take-le, line_answers, line_ends, line_message, list_all-append, lt-leb, message_answer, name_text, ne_eqb, octets16, option_map, passing, question_line, records, records_equal, refl, report_of_faults, report_of_meaning, rules, section_line, set, subst, suc, sym, take, take-append-add, take-append-drop, take-append-le, take_all, take_more, true, zero, zone_of, zone_report, ℕ, ⊤, ◌%◌, ◌&&◌, ◌*◌, ◌++◌, ◌+◌, ◌-◌, ◌/◌, ◌<◌, ◌==◌, ◌^◌, ◌∙◌, ◌∷◌, ◌≡◌, ◌≢◌, ◌≤◌, ◌⊎◌}
+unfoldable pub use Rattle.dns_spec.proofs.Common.{faults, hex_octets, lines}
 pub use Rattle.std.proofs.Common.{slice_index}
-pub use Rattle.std.specs.Prelude.{IfNone, IsErr}
+pub use Rattle.std.specs.Prelude.{IsErr}
 pub use Rattle.std.proofs.KnownBytes.{Consumes-kept}
 pub use Rattle.std.proofs.lemmas.List.{take_more_set}
 pub use Rattle.dns_master.specs.Codes.{fault_of}
 pub use Rattle.dns_master.specs.SourceForm.{GivesMeaning, IsRead}
-pub use Rattle.dns_name.proofs.WritesLemmas.{Writes-after, Writes-held, Writes-same, Written, Written-begun, Written-more, beginning_of_first, beginning_of_second, held_begun, held_less, held_more}
+pub use Rattle.dns_name.proofs.WritesLemmas.{Writes-held, Writes-same, Written, Written-begun, Written-more, beginning_of_first, beginning_of_second, held_begun, held_less, held_more}
 pub use Rattle.dns_name.specs.Counted.{AppendsAllBut, AppendsBeginning, Counted, Writes}
 pub use Rattle.dns_serve.proofs.OneTurn.{handed_unknown}
 pub use Rattle.dns_serve.specs.Streams.{Session}
 pub use Rattle.dns_spec.proofs.PrintedZones.OrderedReport.{ordered_passing}
 pub use Rattle.dns_spec.proofs.ZoneChecks.FaultOrder.{folded_folded}
 pub use Rattle.dns_spec.specs.Lines.{begin_line}
-pub use Rattle.dns_spec.specs.MessageLines.{PrintsOctets, class_text, first_of, header_line}
+pub use Rattle.dns_spec.specs.MessageLines.{PrintsOctets, first_of, header_line}
 pub use Rattle.dns_spec.specs.Reading.{NoMessage}
-pub use Rattle.dns_spec.specs.Report.{bare_name_text, failing, line_report, loaded_report, two_digits}
+pub use Rattle.dns_spec.specs.Report.{failing, two_digits}
 pub use Rattle.dns_tools.specs.Checked.{CheckedAs, ReportedAs, ReportsOn, WrittenAs, options_of}
 pub use Rattle.dns_tools.specs.ExchangeForm.{kept_of, reply_of}
 pub use Rattle.dns_tools.specs.Exchanges.{Begun, Grows, HasAnsweredEnded, HasAnsweredLines, HasBegunAnswers, IsFresh, IsInput, KeepsUp, Kept, LinesAnswered, Progress}
@@ -32,7 +32,6 @@ pub use Rattle.dns_tools.specs.declared.load.LoadFault.{LoadFault}
 pub use Rattle.dns_tools.specs.declared.load.LoadFault.TheVariants.{Refused}
 pub use Rattle.dns_tools.specs.declared.load.Refusal.{Refusal}
 pub use Rattle.dns_tools.specs.declared.load.Refusal.TheVariants.{File, Zone}
-pub use Rattle.dns_wire.specs.Read.{data_type}
 pub use Rattle.dns_wire.specs.WireFault.{UnlessNoMemory}
 pub use Rattle.dns_wire.specs.declared.wire_fault.WireFault.{WireFault}
 pub use Rattle.dns_wire.specs.declared.wire_fault.WireFault.TheVariants.{BadData, BadPointer, LongName, NoMemory, ReservedLabel, Short, Trailing}

@@ -179,10 +179,11 @@ at_end None c given read end = tt
 at_end (Some x) None given read end = absurd read
 at_end (Some x) (Some y) given read end = read ∙ ap (λ z. given ++ z) end ∙ append-nil given
 
-pub going_ended : (a b c : Option Octets) (l : Octets)
-    → Consumes b c [] → IsAtEnd c → Going a b l → ReadsFirst a c l
-going_ended a b c l none end g =
-    let read = Consumes-trans a b c g.given [] g.read none in
+pub read_ended : (a b c : Option Octets) (count : ℕ) (buf l : Octets)
+    → Consumes b c (take count buf) → count ≡ 0 → IsAtEnd c → Going a b l → ReadsFirst a c l
+read_ended a b c count buf l more none end g =
+    let nothing : Consumes b c [] = subst (λ n. Consumes b c (take n buf)) none more in
+    let read = Consumes-trans a b c g.given [] g.read nothing in
     let all : (g.given ++ []) ++ [] ≡ g.given = append-nil (g.given ++ []) ∙ append-nil g.given in
     record {
       input = g.given;
@@ -227,11 +228,6 @@ longer a b octets false l n some g more =
 pub first_longer : (a b : Option Octets) (l : Octets)
     → Going a b l → suc 0 ≤ 131071 - length l
 first_longer a b l g = omega (arith, front_length g.given l g.front, g.front.goes_on.short)
-
-pub read_ended : (a b c : Option Octets) (count : ℕ) (buf l : Octets)
-    → Consumes b c (take count buf) → count ≡ 0 → IsAtEnd c → Going a b l → ReadsFirst a c l
-read_ended a b c count buf l more none end g =
-    going_ended a b c l (subst (λ n. Consumes b c (take n buf)) none more) end g
 
 pub more_unended : (x front t : Octets) (o : ℕ)
     → t ≡ front ++ o ∷ [] → o ≢ 10 → line_ends (x ++ front) ≡ 0 → line_ends (x ++ t) ≡ 0

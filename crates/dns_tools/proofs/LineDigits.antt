@@ -1,5 +1,5 @@
 -- The digits of a line: the hex library reads and writes them as the definitions do.
-use Rattle.dns_tools.proofs.Common.{◌≡◌, ℕ, zero, suc, ◌+◌, ◌*◌, ◌/◌, ◌%◌, ◌<◌, ◌==◌, if◌then◌else◌, Bool, true, false, ◌&&◌, ◌⊎◌, inl, inr, List, [], ◌∷◌, ◌++◌, length, length-append, take, drop, set, slice_index, Option, Some, None, Result, Ok, Err, refl, sym, ap, ap₂, ◌∙◌, arith, IsErr, take_more_set, length-drop, is_ascii_hexdigit, digit_value, digit_char, option_map, agree_below_at, eqb-true, cases_Bool, cases_lt, le-leb, lt-leb, take_all, take-append-le, Octets, octets16, hex_octets, hex_text, IsBytes, hex_digit_value, decode_pairs, decode_of, encode_lower, encode_with, lower_digits, FromHexError, length-encode_with, cons_byte}
+use Rattle.dns_tools.proofs.Common.{◌≡◌, ℕ, zero, suc, ◌+◌, ◌*◌, ◌/◌, ◌%◌, ◌<◌, ◌==◌, if◌then◌else◌, Bool, true, false, inl, inr, List, [], ◌∷◌, ◌++◌, length, length-append, take, drop, set, slice_index, Option, Some, None, Result, Ok, Err, refl, sym, ap, ◌∙◌, arith, IsErr, take_more_set, length-drop, is_ascii_hexdigit, digit_value, digit_char, option_map, agree_below_at, eqb-true, cases_Bool, cases_lt, le-leb, lt-leb, take_all, take-append-le, Octets, octets16, hex_octets, hex_text, IsBytes, hex_digit_value, decode_pairs, decode_of, encode_lower, encode_with, lower_digits, FromHexError, length-encode_with, cons_byte}
 
 abbrev digit : ℕ → Option ℕ
 digit c = if is_ascii_hexdigit c then Some (digit_value c) else None
@@ -64,40 +64,21 @@ pairs_said : (i : ℕ) (text : Octets) → said (decode_pairs i text) ≡ hex_oc
 unfolding decode_pairs hex_octets
 pairs_said i [] = refl
 pairs_said i (h ∷ []) = refl
-pairs_said i (h ∷ l ∷ text) = by_cases
-    (pairs_said (i + 2) text) (cases_Bool (is_ascii_hexdigit h)) (cases_Bool (is_ascii_hexdigit l))
+pairs_said i (h ∷ l ∷ text) =
+    by_cases (is_ascii_hexdigit h) refl (is_ascii_hexdigit l) refl (pairs_said (i + 2) text)
   where
-    by_cases : said (decode_pairs (i + 2) text) ≡ hex_octets text → (is_ascii_hexdigit h ≡ true)
-        ⊎ (is_ascii_hexdigit h ≡ false) → (is_ascii_hexdigit l ≡ true) ⊎ (is_ascii_hexdigit l
-        ≡ false) → said (decode_pairs i (h ∷ l ∷ text)) ≡ hex_octets (h ∷ l ∷ text)
-    by_cases after (inl high) (inl low) =
-        let first : hex_digit_value h ≡ Some (digit_value h) = rw high at (digit_same h) in
-        let second : hex_digit_value l ≡ Some (digit_value l) = rw low at (digit_same l) in
-        let value : digit_value h * 16 + digit_value l ≡ 16 * digit_value h + digit_value l =
-        omega arith in
-        rw (first, second, high, low) (said_more _ (decode_pairs (i + 2) text)
-        ∙ ap₂ (λ v o. option_map (λ d. v ∷ d) o) value after)
-    by_cases after (inl high) (inr low) =
-        let first : hex_digit_value h ≡ Some (digit_value h) = rw high at (digit_same h) in
-        let second : hex_digit_value l ≡ None = rw low at (digit_same l) in
-        rw (first, second, high, low) refl
-    by_cases after (inr high) low =
-        let first : hex_digit_value h ≡ None = rw high at (digit_same h) in
-        rw (first, high) refl
+    by_cases : (p : Bool) → is_ascii_hexdigit h ≡ p → (q : Bool) → is_ascii_hexdigit l ≡ q
+        → said (decode_pairs (i + 2) text) ≡ hex_octets text
+        → said (decode_pairs i (h ∷ l ∷ text)) ≡ hex_octets (h ∷ l ∷ text)
+    by_cases true high true low after = grind (arith, digit_same, said_more)
+    by_cases true high false low after = grind (arith, digit_same)
+    by_cases false high q low after = grind (arith, digit_same)
 
 pub odd_is_none : (text : Octets) → length text % 2 ≡ 1 → hex_octets text ≡ None
 unfolding hex_octets
 odd_is_none [] odd = absurd (omega (arith, odd))
 odd_is_none (h ∷ []) odd = refl
-odd_is_none (h ∷ l ∷ text) odd =
-    let after = odd_is_none text (omega (arith, odd)) in
-    none_after (is_ascii_hexdigit h && is_ascii_hexdigit l)
-    (16 * digit_value h + digit_value l) (hex_octets text) after
-  where
-    none_after : (b : Bool) (v : ℕ) (o : Option Octets)
-        → o ≡ None → (if b then option_map (λ d. v ∷ d) o else None) ≡ None
-    none_after true v o e = ap (option_map (λ d. v ∷ d)) e
-    none_after false v o e = refl
+odd_is_none (h ∷ l ∷ text) odd = grind (arith, (odd_is_none text))
 
 line_said : (text : Octets) → said (decode_of text) ≡ hex_octets text
 line_said text = grind (arith, cases_Bool, odd_is_none, eqb-true, pairs_said)

@@ -1,5 +1,5 @@
 -- The list of faults is written as the definitions have it.
-use Rattle.dns_tools.proofs.Common.{◌≡◌, ℕ, ◌+◌, ◌<◌, ◌==◌, ◌&&◌, Bool, true, false, List, [], ◌∷◌, ◌++◌, length, take, drop, get_or, ne_eqb, refl, sym, ap, ◌∙◌, arith, codes, flat_map, filter, append_assoc, length-append, drop-cons, add-one, if◌then◌else◌, Octets, DomainName, folded, ResourceRecord, zone_of, Fault, Report, fault_report, two_digits, fault_code, faults, name_text, Option, Some, Counted, Appends-nil, Appends, AppendsBeginning, ZoneContents, Result, Ok, Err, IsErrAnd, Stop, Memory, Source, Sink, ReportedAs, GivesMeaning, IsRead, records, false≢true, subst}
+use Rattle.dns_tools.proofs.Common.{◌≡◌, ℕ, ◌+◌, ◌<◌, ◌==◌, ◌&&◌, Bool, true, false, List, [], ◌∷◌, ◌++◌, length, take, drop, get_or, ne_eqb, refl, sym, ap, ◌∙◌, arith, codes, flat_map, filter, append_assoc, length-append, drop-cons, add-one, if◌then◌else◌, Octets, DomainName, folded, ResourceRecord, zone_of, Fault, Report, fault_report, two_digits, fault_code, faults, Option, Some, Counted, Appends-nil, Appends, AppendsBeginning, ZoneContents, Result, Ok, Err, IsErrAnd, Stop, Memory, Source, Sink, ReportedAs, GivesMeaning, IsRead, records, false≢true, subst}
 use Rattle.std.specs.Prelude.{map, cond}
 use Rattle.std.proofs.lemmas.List.Folds.{flat_map-map}
 use Rattle.std.specs.Vec.{vec_len}
@@ -113,11 +113,7 @@ ended a x = rw length-append (omega arith)
 zone_passes : (found : List Fault)
     → (length (flat_map fault_report found) == 0) ≡ (length found == 0)
 zone_passes [] = refl
-zone_passes (f ∷ found) =
-    not_empty (flat_map fault_report (f ∷ found))
-    (more_octets (fault_report f) (flat_map fault_report found)
-    (ended (name_text f.owner ++ codes " Z" ++ two_digits f.code) 10))
-    ∙ sym (not_empty (f ∷ found) (omega arith))
+zone_passes (f ∷ found) = grind (arith, length-append)
 
 -- a list is empty if and only if there is no fault
 listing_passes : (o : DomainName) (text : Octets) (found : List EntryFault)
@@ -136,8 +132,7 @@ none_listed : (items : List code.EntryFault) (found : List EntryFault)
 none_listed [] [] e = refl
 none_listed (x ∷ items) [] e = absurd (cc)
 none_listed [] (f ∷ found) e = absurd (cc)
-none_listed (x ∷ items) (f ∷ found) e =
-    not_empty (x ∷ items) (omega arith) ∙ sym (not_empty (f ∷ found) (omega arith))
+none_listed (x ∷ items) (f ∷ found) e = grind arith
 
 -- beside no fault of the file, all faults of the zone are listed; else those that last
 pub all_listed : (found : List EntryFault) (z : ZoneContents) (list : FaultList)

@@ -1,5 +1,5 @@
 -- Re-exports the names that most proofs use. Declares nothing.
-pub use Rattle.dns_spec.proofs.Common.{data_fields, data_at, field_at, message_question_at, message_record_at, All, AllByRecursion, Bool, Bor, DomainName, Header, IfSome, IsAskable, IsWritable, Item, Laid, List, MessageQuestion, NameAt, None, Octets, OnTrue, Option, Part, Field, Placed, RecordSet, ResourceRecord, RunAt, Sharing, Some, Spells, TypeRow, [], add-zero, and_parts, anything, ap, append-nil, append_assoc, ap₂, arith, asked_octets, asked_placed, class_in, compresses, cond, cond_some, data_laid, domain, drop, drop-cons, drop-drop, drop-take, drop_at, ends, eq-eqb, eqb-true, false, false≢true, field16, find, flat_map-append, get_or, get_or-map, get_or-set_other, get_or-set_same, get_or_append_left, get_or_push, goes_on, has_suffix, header_octets, if◌then◌else◌, in_section, inl, inr, is_label, is_name, is_section, is_some, jumps, laid_front, laid_parts, last_place, le-leb, leb-false, leb-true, length, length-append, length-drop, length-map, length-replicate, length-set, length-take, length-take-le, list_all, lt-leb, map, message_of, name, name_if_short, nat_le, ne_eqb, nil_from_length, none-some, octets, octets16, octets32, option_and_then, option_map, option_to_list, other_type, part_octets, parts, field_front, fields_of, place_of, pointer_place, question_octets, record_laid, record_tail, records_at, records_octets, records_of, refl, replicate, rules, same_Some, sections_in_order, shared_octets, shared_place, slice_get, slice_get-get_or, slice_get_past, slice_get_within, slice_set, subst, subst₂, suc, suffix_place, sym, take, take-add, take-append-add, take-append-drop, take-append-le, take-append_seam, take_all, take_at, take_more, true, true≢false, type_mx, type_soa, unwrap_or, valid, wire, with_label, zero, ℕ, ◌%◌, ◌&&◌, ◌*◌, ◌++◌, ◌+◌, ◌-◌, ◌/◌, ◌<◌, ◌==◌, ◌^◌, ◌||◌, ◌↔◌, ◌∙◌, ◌∷◌, ◌≡◌, ◌≢◌, ◌≤◌, ◌⊎◌, number, ipv4, ipv6, suc-mul}
+pub use Rattle.dns_spec.proofs.Common.{data_fields, data_at, field_at, message_question_at, message_record_at, All, AllByRecursion, Bool, Bor, DomainName, Header, IfSome, IsAskable, IsWritable, Item, Laid, List, MessageQuestion, NameAt, None, Octets, OnTrue, Option, Part, Field, Placed, RecordSet, ResourceRecord, RunAt, Sharing, Some, Spells, TypeRow, [], add-zero, and_parts, anything, ap, append-nil, append_assoc, ap₂, arith, asked_octets, asked_placed, class_in, compresses, cond, cond_some, data_laid, domain, drop, drop-cons, drop-drop, drop-take, drop_at, ends, eq-eqb, eqb-true, false, false≢true, field16, find, flat_map-append, get_or, get_or-map, get_or-set_other, get_or-set_same, get_or_append_left, get_or_push, goes_on, has_suffix, header_octets, if◌then◌else◌, in_section, inl, inr, is_label, is_name, is_section, is_some, jumps, laid_front, laid_parts, last_place, le-leb, leb-false, leb-true, length, length-append, length-drop, length-map, length-replicate, length-set, length-take, length-take-le, list_all, lt-leb, map, message_of, name, nat_le, ne_eqb, nil_from_length, none-some, octets, octets16, octets32, option_map, option_to_list, other_type, part_octets, parts, field_front, fields_of, place_of, pointer_place, question_octets, record_laid, records_at, records_octets, records_of, refl, replicate, rules, same_Some, sections_in_order, shared_octets, shared_place, slice_get, slice_get-get_or, slice_get_within, slice_set, subst, subst₂, suc, suffix_place, sym, take, take-add, take-append-add, take-append-drop, take-append-le, take-append_seam, take_all, take_at, take_more, true, true≢false, type_mx, type_soa, unwrap_or, valid, wire, zero, ℕ, ◌%◌, ◌&&◌, ◌*◌, ◌++◌, ◌+◌, ◌-◌, ◌/◌, ◌<◌, ◌==◌, ◌^◌, ◌||◌, ◌↔◌, ◌∙◌, ◌∷◌, ◌≡◌, ◌≢◌, ◌≤◌, ◌⊎◌, number, ipv4, ipv6, suc-mul}
 unfoldable pub use Rattle.dns_spec.proofs.Common.{cut, data_by, fields_at, layout, several, name_at, octets_by, question_at, records_by, size}
 pub use Rattle.std.proofs.Common.{IsFalse, lt_of_not-le}
 pub use Rattle.std.specs.List.{refill}
