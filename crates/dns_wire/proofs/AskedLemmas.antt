@@ -9,8 +9,7 @@ use Rattle.dns_spec.proofs.DomainNames.WireNames.{wire_split, longer_wire}
 pub before_is : {b : Octets} {a : ℕ} {front name : Octets}
     → IsAsked b a → front ≡ take a b → name ≡ drop 12 front → name ≡ name_before b a
 before_is {b} {a} asked front name =
-    let after = asked.after in
-    let whole : a ≡ 12 + (a - 12) = omega (arith, after) in
+    let whole : a ≡ 12 + (a - 12) = omega (arith, asked.after) in
     name ∙ ap (drop 12) front ∙ ap (λ k. drop 12 (take k b)) whole ∙ drop-take 12 (a - 12) b
 
 -- the octets before the end of the name determine it
@@ -133,13 +132,12 @@ asked_found head {b} {a} o asked two inside last =
         (labels_of (name_before b a)) front (l ∷ t) asked some (sym form.wire_is) whole in
         let long = ap length is in
         let near = asked.near in
-        let all = there.whole in
         let short = there.short in
         record {
           kept = (
             head (wire (l ∷ t)),
             asked_kept head b a front t l (a - length o) whole short
-                (omega (arith, all, short, long, some)) (omega (arith, near)),
+                (omega (arith, there.whole, short, long, some)) (omega (arith, near)),
           );
           reached = omega (arith, near);
           spelled = λ n e ok. (
@@ -170,10 +168,8 @@ asked_none {b} {a} o asked never head p h kept there =
         let n = labels_of (name_before b a) in
         let suffix : DomainName = s.label ∷ s.labels in
         let stands = suffix_stands n s.front suffix asked some (sym form.wire_is) s.whole in
-        let place = s.offset in
-        let long = s.wire_length in
         let all = stands.whole in
-        let at : a - length (wire suffix) ≡ p = omega (arith, place, long, all, some) in
+        let at : a - length (wire suffix) ≡ p = omega (arith, s.offset, s.wire_length, all, some) in
         let ok =
         is_name-suffix s.front suffix (subst (λ x. is_name x ≡ true) s.whole form.is_name) in
         let run = run_written suffix (and_parts (list_all is_label suffix) _ ok).0
@@ -229,9 +225,8 @@ last_label {name} {rest} {after} {count} k last a longer = record {
       last.shorter in omega (arith, s, ap length a.first, ap length a.cut, length-drop k a.others);
   end =
       let s = last.shorter in
-      let fits = a.fits in
       let count_of : length name - length rest + suc k ≡ length name - length after =
-      omega (arith, s, fits, ap length a.first, ap length a.cut, length-drop k a.others) in
+      omega (arith, s, a.fits, ap length a.first, ap length a.cut, length-drop k a.others) in
       a.cut ∙ sym (ap (λ (o : Octets). drop (suc k) o) a.first) ∙ ap (drop (suc k)) last.end
       ∙ drop-drop (suc k) (length name - length rest) name ∙ ap (λ m. drop m name) count_of;
   all = λ n e ok.

@@ -1,5 +1,5 @@
 -- A name that was laid out before is laid out again by the form that it had.
-use Rattle.dns_wire.proofs.Common.{◌≡◌, ◌↔◌, ℕ, zero, suc, ◌+◌, ◌<◌, ◌≤◌, Bool, true, false, cond, nat_le, List, [], ◌∷◌, ◌++◌, length, take, Option, None, Some, refl, sym, ap, ap₂, ◌∙◌, subst, arith, append_assoc, append-nil, length-append, le-leb, leb-true, leb-false, lt-leb, ◌⊎◌, inl, inr, false≢true, OnTrue, Octets, DomainName, wire, is_name, Placed, suffix_place, place_of, last_place, shared_place, shared_octets, suffix_to, shared_is, shared_to, shared_none, Kept, IsSharedAt, front_size, pointed_offset, end_octets, asked_offsets, new_offsets, Holds, Follows, IsAsked, name_laid, Form, IsLaid, form_again, suffix_number, Counts, PartialMessage, partial_of, HasNames, WritesAfter, known_offsets, with_octets, subst₂}
+use Rattle.dns_wire.proofs.Common.{◌≡◌, ◌↔◌, ℕ, zero, suc, ◌+◌, ◌<◌, ◌≤◌, Bool, true, false, cond, nat_le, List, [], ◌∷◌, ◌++◌, length, take, None, Some, refl, sym, ap, ap₂, ◌∙◌, subst, arith, append_assoc, append-nil, length-append, le-leb, leb-true, leb-false, lt-leb, ◌⊎◌, inl, inr, false≢true, OnTrue, Octets, DomainName, wire, is_name, Placed, suffix_place, place_of, last_place, shared_place, shared_octets, suffix_to, shared_is, shared_to, shared_none, Kept, IsSharedAt, front_size, pointed_offset, end_octets, asked_offsets, new_offsets, Holds, Follows, IsAsked, name_laid, Form, IsLaid, form_again, suffix_number, Counts, PartialMessage, partial_of, HasNames, WritesAfter, known_offsets, with_octets, subst₂}
 use Rattle.std.specs.Bool.{OnFalse}
 use Rattle.dns_wire.proofs.AskedLemmas.{kept_more}
 use Rattle.dns_wire.proofs.NameWritten.{holds_name, place_left, place_new, shared_cut}
@@ -54,19 +54,14 @@ laid_again ms more (l ∷ t) p (suc k, x) before laid = go (nat_le p last_place)
     own : Suffix (l ∷ t) (l ∷ t)
     own = record { front = []; whole = refl }
 
-    unplaced : p ≤ last_place → (y : Option ℕ) → place_of ms (l ∷ t) ≡ y
-        → place_of ms (l ∷ t) ≡ None
-    unplaced low None e = e
-    unplaced low (Some q) e =
-        let here = before l t q e in
-        let shared = shared_to ms (l ∷ t) q e (omega (arith, here, low)) in
-        absurd (let z = sym laid.0 ∙ front-as ms l t shared in omega (arith, z))
+    unplaced : p ≤ last_place → place_of ms (l ∷ t) ≡ None
+    unplaced low = grind (arith, (before l t), (shared_to ms (l ∷ t)), front_size, laid)
 
     go : (b : Bool) → nat_le p last_place ≡ b
         → IsLaid ms' (l ∷ t) (cond b (zero, Some p) (suc k, x))
     go true e =
         let low = leb-true p last_place e in
-        let none = unplaced low (place_of ms (l ∷ t)) refl in
+        let none = unplaced low in
         let at : suffix_place (l ∷ t, p) (l ∷ t) ≡ p = omega arith in
         let shared = shared_to ms' (l ∷ t) p
         (place_added ms more (l ∷ t) p (l ∷ t) own none ∙ ap Some at) (omega (arith, low)) in

@@ -1,6 +1,6 @@
 -- Once a name is laid out, it is one more earlier name: the message spells its suffixes, and their
 -- offsets are kept.
-use Rattle.dns_wire.proofs.Common.{◌≡◌, ℕ, zero, suc, ◌+◌, ◌-◌, ◌<◌, ◌≤◌, true, cond, nat_le, ◌⊎◌, inl, inr, List, [], ◌∷◌, ◌++◌, length, take, drop, replicate, slice_get, Option, None, Some, refl, sym, ap, ap₂, ◌∙◌, subst, arith, append_assoc, append-nil, length-append, length-take-le, and_parts, leb-true, none-some, take-append-add, list_all, Octets, DomainName, wire, is_name, is_label, RunAt, ends, goes_on, jumps, Placed, has_suffix, suffix_place, place_of, shared_place, shared_octets, is_name-tail, Stands, begins_inside, suffix_from, suffix_to, place_again, place_pushed, shared_is, shared_to, shared_none, shared_whole, shared_pointed, shared_root, AfterLabel, Known, known_more, Kept, IsKept, front_size, pointed_offset, end_octets, new_offsets, Answers, Holds}
+use Rattle.dns_wire.proofs.Common.{◌≡◌, ℕ, zero, suc, ◌+◌, ◌-◌, ◌<◌, ◌≤◌, true, cond, nat_le, ◌⊎◌, inl, inr, List, [], ◌∷◌, ◌++◌, length, take, drop, replicate, slice_get, Option, None, Some, refl, sym, ap, ◌∙◌, subst, arith, append_assoc, append-nil, length-append, length-take-le, and_parts, leb-true, none-some, take-append-add, list_all, Octets, DomainName, wire, is_name, is_label, RunAt, ends, goes_on, jumps, Placed, has_suffix, suffix_place, place_of, shared_place, shared_octets, is_name-tail, Stands, begins_inside, suffix_from, suffix_to, place_again, place_pushed, shared_is, shared_to, shared_none, shared_whole, shared_pointed, shared_root, AfterLabel, Known, known_more, Kept, IsKept, front_size, pointed_offset, end_octets, new_offsets, Answers, Holds}
 use Rattle.dns_wire.proofs.SuffixLemmas.{Left, next_label, front-as, front-root, pointed-as, pointed-root, kept-more}
 use Rattle.dns_spec.proofs.General.Places.{get_more, take_within}
 use Rattle.dns_spec.proofs.Layouts.SharedNames.{shared_some}
@@ -15,17 +15,14 @@ shared_cut ms (l ∷ n) = go (shared_place ms (l ∷ n)) refl (shared_cut ms n)
         (front_size ms n) (wire n) ++ end_octets (pointed_offset ms n) → shared_octets ms (l ∷ n)
         ≡ take (front_size ms (l ∷ n)) (wire (l ∷ n)) ++ end_octets (pointed_offset ms (l ∷ n))
     go None e h =
-        let f = front_size ms n in
-        let o = end_octets (pointed_offset ms n) in
-        let more : take (1 + length l + f) (wire (l ∷ n)) ≡ length l ∷ (l ++ take f (wire n)) =
-        ap (λ k. take k (wire (l ∷ n))) (let z : 1 + length l + f ≡ suc (length l + f) =
-        omega arith in z) ∙ ap (λ z. length l ∷ z) (take-append-add l (wire n) f) in
-        shared_whole ms l n e ∙ ap (λ z. length l ∷ (l ++ z)) h ∙ ap (λ z. length l ∷ z) (sym
-        (append_assoc l (take f (wire n)) o)) ∙ ap (λ z. z ++ o) (sym more) ∙ ap₂ (λ k x. take k
-        (wire (l ∷ n)) ++ end_octets x) (sym (front-as ms l n e)) (sym (pointed-as ms l n e))
+        let more : take (1 + length l + front_size ms n) (wire (l ∷ n))
+        ≡ length l ∷ (l ++ take (front_size ms n) (wire n)) =
+        ap (λ k. take k (wire (l ∷ n))) (let z : 1 + length l + front_size ms n
+        ≡ suc (length l + front_size ms n) = omega arith in z)
+        ∙ ap (λ z. length l ∷ z) (take-append-add l (wire n) (front_size ms n)) in
+        rw (shared_whole ms l n e, front-as ms l n e, pointed-as ms l n e, h, more, append_assoc) refl
     go (Some p) e h =
-        shared_pointed ms l n p e ∙ ap₂ (λ k x. take k (wire (l ∷ n)) ++ end_octets x)
-        (sym (front-as ms l n e)) (sym (pointed-as ms l n e))
+        rw (shared_pointed ms l n p e, front-as ms l n e, pointed-as ms l n e) refl
 
 front_within : (ms : List Placed) (n : DomainName) → front_size ms n ≤ length (wire n)
 unfolding front_size
@@ -212,23 +209,14 @@ module _ (head : Octets → ℕ) (ms : List Placed) (b : Octets)
               let long = s.wire_length in
               let low = s.low in
               let at : suffix_place (n, length b) suffix ≡ p = omega (arith, offset, long) in
-              let none = unplaced suffix s.label s.labels refl (place_of ms suffix)
-              refl s.unshared low (let z : length b ≤ p = omega (arith, offset) in z) in
+              let none : place_of ms suffix ≡ None =
+              grind (arith, (holds.before s.label s.labels), (shared_to ms suffix), s.unshared, s.offset) in
               let pushed = place_new ms (n, length b) suffix none has ∙ ap Some at in (
                 s.label,
                 s.labels,
                 shared_to (ms ++ (n, length b) ∷ []) suffix p pushed low,
                 is_name-suffix s.front suffix (subst (λ x. is_name x ≡ true) s.whole ok),
               )
-            where
-              unplaced : (suffix : DomainName) (l : Octets) (t : DomainName) → suffix ≡ l ∷ t
-                  → (x : Option ℕ) → place_of ms suffix ≡ x → shared_place ms suffix ≡ None
-                  → p < 16384 → length b ≤ p → place_of ms suffix ≡ None
-              unplaced suffix l t is None e out low above = e
-              unplaced suffix l t is (Some q) e out low above =
-                  let before = holds.before l t q (ap (place_of ms) (sym is) ∙ e) in
-                  absurd (none-some q
-                  (sym out ∙ shared_to ms suffix q e (omega (arith, before, above, low))))
 
   pub holds_name : Holds head
       (ms ++ (n, length b) ∷ []) (b ++ shared_octets ms n) (ks ++ new_offsets head ms n (length b))
@@ -281,8 +269,7 @@ module _ (head : Octets → ℕ) (ms : List Placed) (b : Octets)
             | inr f ↦
                 let s = suffix_from n (l ∷ t) f.1 in
                 let inside = (begins_inside ms n s.front l t s.whole f.0).1 in
-                let at = f.2 in
-                omega (arith, inside, at, length-append b (shared_octets ms n))
+                omega (arith, inside, f.2, length-append b (shared_octets ms n))
           ]
 
 -- appending octets that are not a name changes nothing

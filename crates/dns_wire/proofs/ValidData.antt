@@ -127,14 +127,13 @@ module _ (b : Octets) (e : ℕ) (within : e ≤ length b) where
       let o = one.0.0 in
       let j = one.0.1 in
       let first = field_read f i j o ordered one.1 in
-      let forward = first.forward in
       let inside = first.inside in
       map_some (λ x. o ++ x) (fields_at b fs j e) d one.2 (λ rest others same.
       let after = fields_read fs j rest inside others in
       let long = length-append o rest in
       subst (ReadFields (f ∷ fs) i) same (record {
         none = λ end. ap (λ x. x ++ rest) (first.none end)
-            ∙ after.none (omega (arith, forward, inside, end));
+            ∙ after.none (omega (arith, first.forward, inside, end));
         run = λ yes.
             let tests = and_parts (is_run f) (list_all is_run fs) yes in
             omega (arith, long, first.run tests.0, after.run tests.1);

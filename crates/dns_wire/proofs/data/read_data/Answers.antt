@@ -21,9 +21,8 @@ returns-clause-ok c =
 
 pub returns-clause-valid : goal.returns-clause-valid
 returns-clause-valid c =
-    let short = c.requires.short in
     data_valid c.args.message.now c.args.rtype.0 c.args.rclass c.args.at c.args.end
-    c.fields.data.items (returns-clause-ok c) (omega (arith, short))
+    c.fields.data.items (returns-clause-ok c) (omega (arith, c.requires.short))
 
 pub returns-in_err-offset-clause-fault : goal.returns-in_err-offset-clause-fault
 returns-in_err-offset-clause-fault c =

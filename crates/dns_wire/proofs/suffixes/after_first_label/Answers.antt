@@ -11,7 +11,6 @@ returns-then-length-eq0-clause-root c = grind (arith, root_zero)
 
 pub returns-in_err-after-clause-root : goal.returns-in_err-after-clause-root
 returns-in_err-after-clause-root c = λ _ n e ok.
-    let short = c.in_err-after.ensures.cases in
     root_cut c.args.name.now
     c.in_ok-length.others.now c.in_ok-length.length.now n e c.in_ok-length.ensures.cases.0
-    (omega (arith, short, c.from-length.ensures))
+    (omega (arith, c.in_err-after.ensures.cases, c.from-length.ensures))

@@ -14,8 +14,7 @@ returns-then-len-eq0-clause-none g c = λ _.
     none_of_both head c.args.message.now c.args.asked_end _ c.args.offsets.now c.args.suffix.now
     (c.in_default.ensures.none refl) (λ p kept there.
     let inside = slice_get_within c.args.offsets.now kept.0 _ kept.1 in
-    let nothing = c.if-len-eq0.true in
-    absurd (omega (arith, inside, nothing, c.len.ensures.value)))
+    absurd (omega (arith, inside, c.if-len-eq0.true, c.len.ensures.value)))
 
 pub returns-clause-found : goal.returns-clause-found
 returns-clause-found g c =

@@ -5,8 +5,7 @@ use Rattle.dns_wire.proofs.suffixes.has_last_labels.Goals as goal
 
 pub labels-preserved : goal.labels-preserved
 labels-preserved c =
-    let a = c.in-Some.ensures.some in
-    last_label _ c.labels.invariant a c.labels-test.true
+    last_label _ c.labels.invariant c.in-Some.ensures.some c.labels-test.true
 
 pub returns-then-not-ends_with-clause-no : goal.returns-then-not-ends_with-clause-no
 returns-then-not-ends_with-clause-no c = λ _ n front t l e ok whole is.

@@ -6,10 +6,8 @@ pub returns-clause-found : goal.returns-clause-found
 returns-clause-found c = λ head.
     let name = before_is c.requires c.split_at.ensures.front c.split_at-2.ensures.back in
     let last = c.has_last_labels.ensures.yes c.if-not-has_last_labels.false in
-    let inside = last.0 in
-    let two = c.if-suffix-lt2.false in
-    asked_found head c.args.suffix.now c.requires (omega (arith, two)) (omega
-    (arith, inside, ap length name)) (subst (λ o. IsLastOf o c.args.suffix.now) name last.1)
+    asked_found head c.args.suffix.now c.requires (omega (arith, c.if-suffix-lt2.false)) (omega
+    (arith, last.0, ap length name)) (subst (λ o. IsLastOf o c.args.suffix.now) name last.1)
 
 pub returns-then-suffix-lt2-clause-none : goal.returns-then-suffix-lt2-clause-none
 returns-then-suffix-lt2-clause-none c = λ _. asked_none c.args.suffix.now c.requires

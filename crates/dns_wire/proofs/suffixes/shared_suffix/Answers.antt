@@ -17,14 +17,13 @@ returns-then-front-room-clause-past g c = λ _. left_past c.suffixes.invariant.l
 
 pub suffixes-preserved : goal.suffixes-preserved
 suffixes-preserved g c =
-    let a = c.in-Some.ensures.some in
     let i = c.suffixes.invariant in
     let none = subst (λ h. NoneSpelled
     (asked_offsets (suffix_number h) c.args.message.now c.args.asked_end ++ c.args.offsets.now)
     (suffix_number h c.suffixes.rest.now) c.args.message.now c.suffixes.rest.now) i.same
     (c.in_default-find_suffix.ensures.none refl) in
     record {
-      left = left_label c.in-Some.field-0-0 i.left a none;
+      left = left_label c.in-Some.field-0-0 i.left c.in-Some.ensures.some none;
       same = c.find_suffix.ensures.same ∙ i.same;
     }
 

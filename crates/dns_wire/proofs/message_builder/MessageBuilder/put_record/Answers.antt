@@ -11,7 +11,6 @@ returns-then-shares-clause-writes g c =
 
 pub returns-else-shares-clause-writes : goal.returns-else-shares-clause-writes
 returns-else-shares-clause-writes g c =
-    let n = c.args.owner.now in
     let t = c.args.rtype.0 in
     let d = c.args.rdata.now in
     let x = c.record_numbers.result in
@@ -21,5 +20,5 @@ returns-else-shares-clause-writes g c =
     let last = writes_as
     (octets_laid (x ++ d)) tail (plain_laid t c.args.ttl d x c.record_numbers.ensures whole)
     (c.append.ensures.writes (g.H.SuffixHash.hashes c.put_owner.new.hash)) in
-    writes_both (name_laid n) tail (λ _ _ _. tt) c.if-not-put_owner.false
+    writes_both (name_laid c.args.owner.now) tail (λ _ _ _. tt) c.if-not-put_owner.false
     c.put_owner.ensures.writes last

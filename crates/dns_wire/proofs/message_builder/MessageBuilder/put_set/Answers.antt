@@ -13,12 +13,11 @@ module _ (g : given.Over) (c : goal.After-take_back g) where
       (records_laid (records_at c.args.owner.now c.args.ttl (g.S.SetView.set c.args.set.now))) false
   tried =
       let set = g.S.SetView.set c.args.set.now in
-      let within = c.records-test.true in
       records_past
       (records_at c.args.owner.now c.args.ttl set) (c.records.i + 1) c.if-not-put_record.true
       (record_more c.args.owner.now c.args.ttl set c.records.i c.len-octets.result (shown_form
       c.records.form) _
-      (omega (arith, within, c.len-i-end.ensures.value))
+      (omega (arith, c.records-test.true, c.len-i-end.ensures.value))
       (ap₂ (λ t d. shown c.args.owner.now t c.args.ttl d) c.rtype-rtype.ensures
       c.rdata-rdata.ensures.value)
       (c.len-octets.ensures.value ∙ ap (λ (d : PartialMessage). length d.octets) c.self.view_is)
@@ -47,10 +46,9 @@ pub records-preserved : goal.records-preserved
 records-preserved g c =
     let numbers = g.H.SuffixHash.hashes in
     let set = g.S.SetView.set c.args.set.now in
-    let within = c.records-test.true in
     let done = record_more c.args.owner.now c.args.ttl set c.records.i c.len-octets.result
     (shown_form c.records.form) _
-    (omega (arith, within, c.len-i-end.ensures.value))
+    (omega (arith, c.records-test.true, c.len-i-end.ensures.value))
     (ap₂ (λ t d. shown c.args.owner.now t c.args.ttl d) c.rtype-rtype.ensures
     c.rdata-rdata.ensures.value)
     (c.len-octets.ensures.value ∙ ap (λ (d : PartialMessage). length d.octets) c.self.view_is)
@@ -58,14 +56,13 @@ records-preserved g c =
     let longer = subst (λ t. OnTrue t (length c.records.self.octets + 10 ≤ length
     c.put_record.new.self.octets)) c.if-not-put_record.false c.put_record.ensures.longer in
     let so = c.records.invariant in
-    let so_far = so.longer in
     record {
       writes =
           subst (λ t. Writes (numbers c.args.hash.now) (numbers c.put_record.new.hash)
           c.args.self.now c.put_record.new.self (records_laid (take (c.records.i + 1)
           (records_at c.args.owner.now c.args.ttl set))) t) c.if-not-put_record.false
           done;
-      longer = omega (arith, longer, so_far);
+      longer = omega (arith, longer, so.longer);
       begins = λ none. absurd (omega (arith, none));
       form = c.put_record.ensures.form;
       known = λ _. form_known (numbers c.args.hash.now) (numbers c.records.hash) c.args.self.now

@@ -66,19 +66,13 @@ invariant_of-self g c =
     let a = c.len-at.result in
     let b = before g c in
     let s = c.self-2.invariant in
-    let within = s.within in
-    let few = s.few in
-    let header = s.header in
-    let fit = s.counts_fit in
     let end = s.asked.inside in
     let in_it = inside g c in
-    let there = in_it.0 in
-    let low = in_it.1 in
     let long = ap length (set g c) ∙ long g c in
-    kept_with s (omega (arith, within, long)) (omega (arith, few, long))
+    kept_with s (omega (arith, s.within, long)) (omega (arith, s.few, long))
     (is_asked_same s.asked (take_patched c.self-2.inside.asked_end (a + 8) b (patch g c a b) _
-    (set g c) (omega (arith, low)) (omega (arith, there))) refl (omega (arith, end, long)))
-    (omega (arith, header, long)) (omega (arith, fit, long))
+    (set g c) (omega (arith, in_it.1)) (omega (arith, in_it.0))) refl (omega (arith, end, long)))
+    (omega (arith, s.header, long)) (omega (arith, s.counts_fit, long))
 
 pub returns-clause-writes : goal.returns-clause-writes
 returns-clause-writes g c =

@@ -9,9 +9,8 @@ chain-init g c =
     let es = c.self.inside.entries.items in
     let P = λ (e : KeptOffset). (e.number ≡ c.args.number)
     × SpelledAt c.args.message.now e.offset c.args.suffix.now in
-    let low = c.chain_of.ensures.low in
     let begun = chain_begins P (chain_of c.args.number) es c.self.inside.heads c.self.invariant
-    (omega (arith, low, c.chain_of.ensures.chain)) in
+    (omega (arith, c.chain_of.ensures.low, c.chain_of.ensures.chain)) in
     subst (λ k. Chain P (chain_of c.args.number) es (get_or c.self.inside.heads k 0))
     (sym c.chain_of.ensures.chain) begun
 
@@ -69,8 +68,7 @@ pub chain-smaller : goal.chain-smaller
 chain-smaller g c =
     let r = passed g c in
     let low = (next g c).1 in
-    let is = r.1 in
-    omega (arith, low, is, ap (λ (e : KeptOffset). e.next) r.2)
+    omega (arith, low, r.1, ap (λ (e : KeptOffset). e.next) r.2)
 
 pub chain-preserved : goal.chain-preserved
 chain-preserved g c =
