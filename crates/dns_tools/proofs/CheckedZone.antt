@@ -9,6 +9,15 @@ reported Is report (Err Sink) old new h w = (report, h, w)
 reported Is report (Err Memory) old new h w = absurd w
 reported Is report (Err Source) old new h w = absurd w
 
+-- `Other` holds of each report of which `Is` holds
+pub reported_as : (Is Other : Report → Type 0) (result : Result Bool Stop) (old new : Option Octets)
+    → ((report : Report) → Is report → Other report)
+    → ReportedAs Is result old new → ReportedAs Other result old new
+reported_as Is Other (Ok passes) old new so (report, is, written) = (report, so report is, written)
+reported_as Is Other (Err Sink) old new so (report, is, written) = (report, so report is, written)
+reported_as Is Other (Err Memory) old new so same = same
+reported_as Is Other (Err Source) old new so same = same
+
 -- a prefix of a report of which `Is` holds was written
 pub report_begun : (Is : Report → Type 0) (report : Report)
     (result : Result Bool Stop) (old new : Option Octets) → IsErrAnd result (λ stop. stop ≡ Sink)

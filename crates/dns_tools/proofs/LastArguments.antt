@@ -44,10 +44,8 @@ same_front ws f g y z here there = (same_end f g _ _ _ _ (sym here.words_are ∙
 pub service_parts : (p q r : Octets) (t : Transport) (a : Octets) (n : ℕ)
     → p ∷ q ∷ r ∷ [] ≡ service_words (by_turns t a n)
     → (p ≡ transport_word t) × (q ≡ a) × (r ≡ decimal n)
-service_parts p q r udp a n e =
-    (ap (λ xs. get_or xs 0 []) e, ap (λ xs. get_or xs 1 []) e, ap (λ xs. get_or xs 2 []) e)
-service_parts p q r tcp a n e =
-    (ap (λ xs. get_or xs 0 []) e, ap (λ xs. get_or xs 1 []) e, ap (λ xs. get_or xs 2 []) e)
+service_parts p q r udp a n e = grind arith
+service_parts p q r tcp a n e = grind arith
 
 first_octet : List Octets → ℕ
 first_octet ws = get_or (get_or ws 0 []) 0 0

@@ -1,5 +1,5 @@
 -- What a run over lines has done when its input is read, or when a device has failed.
-use Rattle.dns_tools.proofs.Common.{◌≡◌, ◌≢◌, ℕ, ◌+◌, ◌-◌, ◌^◌, ◌<◌, ◌≤◌, Bool, ◌&&◌, ◌⊎◌, inl, inr, [], ◌∷◌, ◌++◌, length, take, Option, Some, None, Result, Ok, Err, IsErrAnd, refl, sym, ap, ◌∙◌, subst, arith, append_assoc, append-nil, length-append, is_some, take_all, take-append-le, take-append-add, Appends, Consumes, IsAtEnd, Keeps, Octets, Appends-nil, Appends-trans, Consumes-trans, Consumes-kept, lines, line_ends, ended_lines, message_answer, line_answers, are_messages, AppendsBeginning, beginning_of_second, Session, Kept, IsFresh, Progress, Begun, IsInput, LinesAnswered, HasAnsweredLines, HasAnsweredEnded, HasBegunAnswers, Grows, KeepsUp, hex_octets, kept_line, length-take, Stop, Source, Sink}
+use Rattle.dns_tools.proofs.Common.{◌≡◌, ◌≢◌, ℕ, ◌+◌, ◌-◌, ◌^◌, ◌<◌, ◌≤◌, Bool, ◌&&◌, ◌⊎◌, inl, inr, [], ◌∷◌, ◌++◌, length, take, Option, Some, None, Result, Ok, Err, IsErrAnd, refl, sym, ap, ◌∙◌, subst, arith, append_assoc, append-nil, length-append, is_some, take_all, take-append-le, take-append-add, Appends, Consumes, IsAtEnd, Keeps, Octets, Appends-nil, Appends-trans, Consumes-trans, Consumes-kept, lines, line_ends, ended_lines, message_answer, line_answers, are_messages, AppendsBeginning, beginning_of_second, Session, Kept, IsFresh, Progress, Begun, IsInput, LinesAnswered, HasAnsweredLines, HasAnsweredEnded, HasBegunAnswers, Grows, KeepsUp, hex_octets, kept_line, length-take, Stop}
 use Rattle.dns_tools.proofs.KeptLines.{line_alone, lines_nil}
 use Rattle.dns_tools.proofs.LineRuns.{one_answer, one_flag, progress_none}
 use Rattle.dns_spec.proofs.Common.{nil_from_length}
@@ -269,13 +269,8 @@ module _ (r s : Octets → Option Octets) (a b x y z : Option Octets) (k : Kept)
   }
 
 -- a device failed, and the run's result says so
-pub sink_stopped : (reply : Octets → Option Octets) (s : Session) (result : Result Bool Stop)
-    → IsErrAnd result (λ stop. stop ≡ Sink) → HasBegunAnswers reply s → LinesAnswered reply s result
-sink_stopped reply s (Ok passes) h b = absurd h
-sink_stopped reply s (Err stop) h b = subst (λ e. LinesAnswered reply s (Err e)) (sym h) b
-
-pub source_stopped : (reply : Octets → Option Octets) (s : Session) (result : Result Bool Stop)
-    → IsErrAnd result (λ stop. stop ≡ Source)
-    → HasAnsweredEnded reply s → LinesAnswered reply s result
-source_stopped reply s (Ok passes) h b = absurd h
-source_stopped reply s (Err stop) h b = subst (λ e. LinesAnswered reply s (Err e)) (sym h) b
+pub stopped : (e : Stop) (reply : Octets → Option Octets) (s : Session) (result : Result Bool Stop)
+    → IsErrAnd result (λ stop. stop ≡ e)
+    → LinesAnswered reply s (Err e) → LinesAnswered reply s result
+stopped e reply s (Ok passes) h b = absurd h
+stopped e reply s (Err stop) h b = subst (λ e. LinesAnswered reply s (Err e)) (sym h) b

@@ -1,12 +1,12 @@
 -- The list of faults is written as the definitions have it.
-use Rattle.dns_tools.proofs.Common.{◌≡◌, ℕ, ◌+◌, ◌<◌, ◌==◌, ◌&&◌, Bool, true, false, List, [], ◌∷◌, ◌++◌, length, take, drop, get_or, ne_eqb, refl, sym, ap, ◌∙◌, arith, codes, flat_map, filter, append_assoc, length-append, drop-cons, add-one, if◌then◌else◌, Octets, DomainName, folded, ResourceRecord, zone_of, Fault, Report, fault_report, two_digits, fault_code, faults, Option, Some, Counted, Appends-nil, Appends, AppendsBeginning, ZoneContents, Result, Ok, Err, IsErrAnd, Stop, Memory, Source, Sink, ReportedAs, GivesMeaning, IsRead, records, false≢true, subst}
+use Rattle.dns_tools.proofs.Common.{◌≡◌, ℕ, ◌+◌, ◌<◌, ◌==◌, ◌&&◌, Bool, true, false, List, [], ◌∷◌, ◌++◌, length, take, drop, get_or, ne_eqb, refl, sym, ap, ◌∙◌, arith, codes, flat_map, filter, append_assoc, length-append, drop-cons, add-one, if◌then◌else◌, Octets, DomainName, folded, ResourceRecord, zone_of, Fault, Report, fault_report, two_digits, fault_code, faults, Option, Some, Counted, Appends-nil, Appends, AppendsBeginning, ZoneContents, Result, Ok, IsErrAnd, Stop, Sink, ReportedAs, GivesMeaning, IsRead, records, false≢true, subst}
 use Rattle.std.specs.Prelude.{map, cond}
 use Rattle.std.proofs.lemmas.List.Folds.{flat_map-map}
 use Rattle.std.specs.Vec.{vec_len}
 use Rattle.dns_spec.proofs.Common.{length-map}
 use Rattle.dns_spec.specs.Meaning.{Means}
 use Rattle.dns_spec.proofs.ZoneTexts.NoFault.{no_fault}
-use Rattle.dns_tools.proofs.CheckedZone.{report_begun}
+use Rattle.dns_tools.proofs.CheckedZone.{reported_as, report_begun}
 use Rattle.dns_tools.proofs.LineParts.{IsLeft}
 use Rattle.dns_spec.specs.AllFaults.{AllFaults, EntryFault, ListsFaults, is_lasting, listing, entry_report, more_report, number_text, position_text, zone_faults, most_listed}
 use Rattle.dns_master.specs.FaultListForm.{IsList, ListsText, ReadsOctets}
@@ -209,12 +209,10 @@ file_listed old new {o} {text} {list} passes l is written = (
 pub octets_listed : (known left : Option Octets) (o : DomainName) (text : Octets)
     (result : Result Bool Stop) (old new : Option Octets) → ReadsOctets known left text
     → ReportedAs (ListsFaults o text) result old new → ListedAs known left o result old new
-octets_listed known left o text (Ok passes) old new read (report, lists, written) =
-    (report, (text, read, lists), written)
-octets_listed known left o text (Err Sink) old new read (report, lists, written) =
-    (report, (text, read, lists), written)
-octets_listed known left o text (Err Memory) old new read same = same
-octets_listed known left o text (Err Source) old new read same = same
+octets_listed known left o text result old new read =
+    reported_as (ListsFaults o text)
+    (λ report. (text : Octets) × ReadsOctets known left text × ListsFaults o text report)
+    result old new (λ report lists. (text, read, lists))
 
 -- records that were read are those of a text without a faulty entry
 pub none_faulty : {known left : Option Octets} (o : DomainName) {o' : DomainName} (text : Octets)

@@ -3,6 +3,7 @@ use Rattle.dns_tools.proofs.Common.{◌≡◌, ◌≢◌, ℕ, ◌≤◌, Bool, 
 use Rattle.dns_spec.specs.MessageFaults.{MessageFault}
 use Rattle.dns_wire.specs.WireFault.{fault_code}
 use Rattle.dns_tools.specs.Printed.{fault_line}
+use Rattle.dns_tools.proofs.CheckedZone.{reported_as}
 
 -- what is printed for octets that are not a message, by their fault
 abbrev pub IsFaultReport : WireFault → Report → Type 0
@@ -31,23 +32,17 @@ pub fault_reported : (b : Octets) (fault : WireFault)
     (result : Result Bool Stop) (old new : Option Octets) → UnlessNoMemory fault (NoMessage b)
     → UnlessNoMemory fault (MessageFault b (fault_code fault))
     → ReportedAs (IsFaultReport fault) result old new → ReportedAs (PrintsOctets b) result old new
-fault_reported b fault (Ok passes) old new none first (report, is, written) =
-    (report, fault_prints b fault none first report is, written)
-fault_reported b fault (Err Sink) old new none first (report, is, written) =
-    (report, fault_prints b fault none first report is, written)
-fault_reported b fault (Err Memory) old new none first same = same
-fault_reported b fault (Err Source) old new none first same = same
+fault_reported b fault result old new none first =
+    reported_as (IsFaultReport fault) (PrintsOctets b) result old new
+    (fault_prints b fault none first)
 
 -- a line that is a message
 pub line_reported : (m : Option Octets)
     (b : Octets) (result : Result Bool Stop) (old new : Option Octets) → m ≡ Some b
     → ReportedAs (PrintsOctets b) result old new → ReportedAs (PrintsMessage m) result old new
-line_reported m b (Ok passes) old new e (report, is, written) =
-    (report, subst (λ m. PrintsMessage m report) (sym e) is, written)
-line_reported m b (Err Sink) old new e (report, is, written) =
-    (report, subst (λ m. PrintsMessage m report) (sym e) is, written)
-line_reported m b (Err Memory) old new e same = same
-line_reported m b (Err Source) old new e same = same
+line_reported m b result old new e =
+    reported_as (PrintsOctets b) (PrintsMessage m) result old new
+    (λ report is. subst (λ m. PrintsMessage m report) (sym e) is)
 
 -- a line that is not a message
 pub bad_hex : (m : Option Octets)

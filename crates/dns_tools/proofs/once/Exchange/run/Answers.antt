@@ -1,5 +1,5 @@
-use Rattle.dns_tools.proofs.Common.{arith, rules, ◌<◌, ◌≤◌, ◌∙◌, length, refl, sym, eqb-true, eqb-false, take-append-le, kept_of, reply_of}
-use Rattle.dns_tools.proofs.LineReads.{AllRead, reading_none, reading_take, taking_begun, reading_failed, all_read, all_given, all_answered, all_begun, finished_empty, finished_line, finished_begun, sink_stopped, source_stopped}
+use Rattle.dns_tools.proofs.Common.{arith, rules, ◌<◌, ◌≤◌, ◌∙◌, length, refl, sym, eqb-true, eqb-false, take-append-le, kept_of, reply_of, Sink, Source}
+use Rattle.dns_tools.proofs.LineReads.{AllRead, reading_none, reading_take, taking_begun, reading_failed, all_read, all_given, all_answered, all_begun, finished_empty, finished_line, finished_begun, stopped}
 use Rattle.dns_tools.proofs.LineRuns.{grows_begun}
 use Rattle.dns_tools.proofs.once.Exchange.run.Goals as goal
 use Rattle.dns_tools.proofs.once.Exchange.run.Given as given
@@ -15,7 +15,7 @@ pieces-init g c = record {
 
 pub returns-in_err-count-clause-lines : goal.returns-in_err-count-clause-lines
 returns-in_err-count-clause-lines g c =
-    source_stopped _ _ c.from_residual.result c.from_residual.ensures.1
+    stopped Source _ _ c.from_residual.result c.from_residual.ensures.1
     (reading_failed _ _ _ _ _ _ c.pieces.left _ (omega (arith, c.pieces-test.true))
     c.in_err-count.ensures.bytes c.pieces.invariant.reading)
 
@@ -24,7 +24,7 @@ returns-in_err-take-clause-lines g c =
     let bound = c.in_ok-count.ensures.bound in
     let within : c.in_ok-count.count ≤ c.pieces.left = search rules in
     let few : c.in_ok-count.count ≤ 65536 = search rules in
-    sink_stopped _ _ c.from_residual-in_err-take.result c.from_residual-in_err-take.ensures.1
+    stopped Sink _ _ c.from_residual-in_err-take.result c.from_residual-in_err-take.ensures.1
     (taking_begun _ _ _ _ _ _ _ _ c.pieces.left c.in_ok-count.count _ _ _ c.pieces.invariant.task
     (take-append-le c.in_ok-count.count c.read.new.buf _ bound.0) (sym bound.1) within few
     c.in_ok-count.ensures.bytes.0 c.in_err-take.ensures.grows c.pieces.invariant.reading
@@ -70,8 +70,8 @@ returns-in_err-end_line-clause-lines g c =
     let some = eqb-false (length c.pieces.self.line) 0
     (sym c.is_empty.ensures ∙ c.if-not-is_empty.true) in
     let begun = c.in_err-end_line.ensures.answered.err in
-    sink_stopped
-    _ _ c.from_residual-in_err-end_line.result c.from_residual-in_err-end_line.ensures.1
+    stopped Sink _ _
+    c.from_residual-in_err-end_line.result c.from_residual-in_err-end_line.ensures.1
     (all_begun _ _ _ _ _ _ _ _ all
     (λ held x p. finished_begun _ held _ x _ p some _ begun) (grows_begun _ _ _ begun))
 
