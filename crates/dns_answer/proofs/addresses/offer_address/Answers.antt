@@ -13,15 +13,13 @@ returns-in_default-clause-offers g c =
 pub returns-in-Encloser-clause-offers : goal.returns-in-Encloser-clause-offers
 returns-in-Encloser-clause-offers g c =
     let z = c.args.steps.now.zone in
-    let name = c.in-Some.ensures.0 in
     Offers-empty _ (none-missing z c.args.target.now
-    (ap (exists z) (sym name) ∙ c.in-Encloser.ensures.way.missing))
+    (ap (exists z) (sym c.in-Some.ensures.0) ∙ c.in-Encloser.ensures.way.missing))
 
 pub returns-clause-offers : goal.returns-clause-offers
 returns-clause-offers g c =
     let z = c.args.steps.now.zone in
-    let name = c.in-Some.ensures.0 in
     let node = c.or_start-node.ensures ∙ c.in-Name.ensures.way.at_name in
     Offers-is _ _ _ _ (ap (λ (v : ZoneNode). addresses_of v.zone v.name) node
-    ∙ addresses-folded z c.in-Some.sought.name ∙ ap (addresses_of z) name)
+    ∙ addresses-folded z c.in-Some.sought.name ∙ ap (addresses_of z) c.in-Some.ensures.0)
     (Offers-then _ _ _ _ _ c.offer_type.ensures c.offer_type-2.ensures)

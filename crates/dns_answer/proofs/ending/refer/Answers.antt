@@ -17,8 +17,7 @@ pub offer_addresses-are_all_inside-requires : goal.offer_addresses-are_all_insid
 offer_addresses-are_all_inside-requires g c =
     let start = start_at_cut _ _ _ c.requires.cut.1 c.in-Some-owner.ensures.node in
     let z = c.args.steps.now.zone in
-    let cut = c.args.cut.now.name in
-    let reaches : Reaches z cut (inside c.in-Some-owner.owner) = λ m takes under.
+    let reaches : Reaches z c.args.cut.now.name (inside c.in-Some-owner.owner) = λ m takes under.
     subst (λ n. at_or_below m n ≡ true) c.in-Some-owner.ensures.name takes in
     search rules
 
@@ -65,7 +64,6 @@ returns-else-not-are_all_inside-clause-ends g c =
 pub returns-else-not-are_all_inside-clause-took : goal.returns-else-not-are_all_inside-clause-took
 returns-else-not-are_all_inside-clause-took g c =
     let set = c.in-Some.ensures in
-    let named = c.in-Some-owner.ensures.name in
     Took-referred _ _ c.in-Some.servers c.requires.cut.1.zone set.set set.rtype set.kept
     c.args.steps.now.zone refl
-    (rw named at c.offer_addresses-are_all_inside.ensures.took) Took-none
+    (rw c.in-Some-owner.ensures.name at c.offer_addresses-are_all_inside.ensures.took) Took-none
