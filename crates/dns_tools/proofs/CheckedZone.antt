@@ -9,7 +9,7 @@ reported Is report (Err Sink) old new h w = (report, h, w)
 reported Is report (Err Memory) old new h w = absurd w
 reported Is report (Err Source) old new h w = absurd w
 
--- `Other` holds of each report of which `Is` holds
+-- what is reported, if `Is` implies `Other`
 pub reported_as : (Is Other : Report → Type 0) (result : Result Bool Stop) (old new : Option Octets)
     → ((report : Report) → Is report → Other report)
     → ReportedAs Is result old new → ReportedAs Other result old new

@@ -43,7 +43,8 @@ module _ (reply : Octets → Option Octets) (x y : Option Octets) (input : Octet
   finished_empty none =
       let all : p.ended ≡ lines input =
       sym (whole_lines ∙ ap (λ z. p.ended ++ lines z) (nil_from_length p.front
-      ((kept_length p.front k.line p.kept).0 none)) ∙ ap (λ z. p.ended ++ z) lines_nil ∙ append-nil p.ended) in
+      ((kept_length p.front k.line p.kept).0 none))
+      ∙ ap (λ z. p.ended ++ z) lines_nil ∙ append-nil p.ended) in
       record {
         written = subst (Appends x y) (ap (line_answers reply) all) p.written;
         passes_is = p.passes_is ∙ ap are_messages all;
@@ -65,7 +66,8 @@ module _ (reply : Octets → Option Octets) (x y : Option Octets) (input : Octet
     finished_line z passes written now = record {
       written = subst (Appends x z) all_answers (Appends-trans x y z _ _ p.written written);
       passes_is =
-          one_flag reply p.ended p.front k p.kept passes now p.passes_is ∙ ap are_messages all_lines;
+          one_flag reply p.ended p.front k p.kept passes now p.passes_is
+          ∙ ap are_messages all_lines;
     }
 
     pub finished_begun : (z : Option Octets) → AppendsBeginning y z (message_answer reply

@@ -16,8 +16,8 @@ use std::marker::Model;
 /// The most octets of a message on a line.
 pub(crate) const MOST_LINE_OCTETS: usize = 65_535;
 
-// The most digits that are kept of a line: one more than the longest message has. No octets are
-// spelled by so many digits, since their number is odd.
+// The most digits that are kept of a line: one more than the longest message has. This number is
+// odd, so that the digits spell no octets.
 const MOST_KEPT: usize = 131_071;
 
 /// The most octets of an input that are read at once.
@@ -31,7 +31,7 @@ impl From<SourceFailed> for Stop {
     }
 }
 
-/// What is kept of an unfinished line: its front, up to one digit more than the longest message has.
+/// The front of an unfinished line, at most one digit longer than the longest message.
 #[derive(Drop)]
 pub(crate) struct Line {
     digits: Vec<u8>,

@@ -20,7 +20,8 @@ shared_cut ms (l ∷ n) = go (shared_place ms (l ∷ n)) refl (shared_cut ms n)
         ap (λ k. take k (wire (l ∷ n))) (let z : 1 + length l + front_size ms n
         ≡ suc (length l + front_size ms n) = omega arith in z)
         ∙ ap (λ z. length l ∷ z) (take-append-add l (wire n) (front_size ms n)) in
-        rw (shared_whole ms l n e, front-as ms l n e, pointed-as ms l n e, h, more, append_assoc) refl
+        rw (shared_whole ms l n e, front-as ms l n e, pointed-as ms l n e, h, more, append_assoc)
+        refl
     go (Some p) e h =
         rw (shared_pointed ms l n p e, front-as ms l n e, pointed-as ms l n e) refl
 
@@ -206,11 +207,12 @@ module _ (head : Octets → ℕ) (ms : List Placed) (b : Octets)
               let suffix : DomainName = s.label ∷ s.labels in
               let has = suffix_to n suffix (record { front = s.front; whole = s.whole }) in
               let offset = s.offset in
-              let long = s.wire_length in
               let low = s.low in
-              let at : suffix_place (n, length b) suffix ≡ p = omega (arith, offset, long) in
+              let before = holds.before s.label s.labels in
+              let at : suffix_place (n, length b) suffix ≡ p =
+              omega (arith, offset, s.wire_length) in
               let none : place_of ms suffix ≡ None =
-              grind (arith, (holds.before s.label s.labels), (shared_to ms suffix), s.unshared, s.offset) in
+              grind (arith, before, (shared_to ms suffix), s.unshared, offset) in
               let pushed = place_new ms (n, length b) suffix none has ∙ ap Some at in (
                 s.label,
                 s.labels,

@@ -92,7 +92,8 @@ module _ (d : Octets) (at : ℕ) (r : ReadTo d at) where
               record {
                 labels = r.labels ++ label ∷ [];
                 reading = subst (λ i. IsReading d 12 (r.labels ++ label ∷ []) 12 i None) next
-                    (reading_label label r.reading there (grind (arith, is_name-push, labels_length)));
+                    (reading_label label r.reading there
+                    (grind (arith, is_name-push, labels_length)));
                 octets = grind (arith, append_assoc, next_octets, label_length);
                 from = omega (arith, r.from);
               }

@@ -22,9 +22,10 @@ module _ (g : given.Over) (c : After-append_end g) where
 pub returns-then-not-append_end-clause-writes : goal.returns-then-not-append_end-clause-writes
 returns-then-not-append_end-clause-writes g c = λ n e ok.
     let c' = (goal.at.returns-then-not-append_end-clause-writes g c).After-append_end in
+    let long = length-append c.split_at.result.0.now (end_octets c.in-Some.laid.pointer) in
     name_not_put n (end g c') c.shared_suffix-found.ensures.same
-    (λ room. false≢true (sym c.if-not-append_end.true ∙ c.append_end.ensures.fits.1
-    (omega (arith, room, length-append c.split_at.result.0.now (end_octets c.in-Some.laid.pointer)))))
+    (λ room. false≢true (sym c.if-not-append_end.true
+    ∙ c.append_end.ensures.fits.1 (omega (arith, room, long))))
     c.if-not-append_end.ensures.unchanged (λ ms holds _. laid g c' ms n holds e ok)
 
 module _ (g : given.Over) (c : After-keep_suffixes g) where
