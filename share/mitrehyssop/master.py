@@ -116,13 +116,14 @@ def dns_name():
 
 @functools.lru_cache(1 << 17)
 def name(text, origin):
-    """The absolute name, in the form of the canonical text, of a name relative to an origin. None if it is invalid."""
+    """The absolute name that a token means below an origin, in the form of the canonical text. None if it is not a name."""
     if text == "@":
         return origin
     if SIMPLE.fullmatch(text) and len(text) + len(origin) < 254:
         return text.lower() if text[-1] == "." else f"{text.lower()}.{origin.lstrip('.')}"
     names = dns_name()
     try:
+        # A name's text has at most 1,004 characters: a longer one stays invalid when it is cut.
         return names.from_text(text[:1021].encode("latin-1"), names.from_text(origin)).canonicalize().to_text()
     except Exception:  # dnspython raises many kinds of exceptions.
         return None
@@ -264,7 +265,7 @@ class Reader:
         return entry
 
     def records(self, lines, stop=sys.maxsize):
-        """Yields the records of all entries that begin before line `stop`, if it is given up to one that is not closed."""
+        """Yields the records of the entries that begin before line `stop`; if it is given, ends after one that is not closed."""
         while self.at < min(stop, len(lines)):
             if quick := QUICK.fullmatch(lines[self.at]):
                 owner, ttl, rtype, data = quick.groups()

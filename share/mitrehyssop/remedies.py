@@ -187,6 +187,7 @@ class Remedy(Entry):
                 f"write {near[0]}" if near else f"the known types are {', '.join(KINDS)}; write others as TYPEn")
         return f"no type after {self.tokens[-1]}"
 
+    # The numbers of these faults are in docs/CODES.md: R13.1 is the number of fields, R13.2 to R13.5 are about one field.
     def r13(self):
         rtype, hexes, number = NAMED.get(self.rtype, self.rtype), "".join(self.data[2:]), self.spot.number
         if self.data[:1] == ["\\#"]:

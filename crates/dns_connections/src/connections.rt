@@ -167,6 +167,7 @@ struct Connections<'z, Z: Served, K: Sockets> {
     plan: Plan,
     // How many connections may still be accepted.
     left: u32,
+    // Whether a connection may wait: not after accepting would have blocked, until one is reported.
     may_accept: bool,
     // The next time when a connection may be accepted, after a failure.
     accepts: Duration,
@@ -297,6 +298,8 @@ impl<'z, Z: Served, K: Sockets> Connections<'z, Z, K> {
         oldest.map(|(key, _)| key)
     }
 
+    // Accepts connections while one may wait, but at most `ACCEPTS`. One that can't be accepted
+    // counts too, and nothing is accepted for some time after it.
     fn accept_some(&mut self, now: Duration) {
         'accepts: for _ in 0..ACCEPTS {
             if !self.accepts(now) {

@@ -61,7 +61,8 @@ Refuses given = (rs : List ResourceRecord) → given ≡ gives rs → ⊥
 is-fault : (given : EntryMeaning) (code : FileFault) → given ≡ faulty code → Refuses given
 is-fault given code is rs e = faultless rs code (sym e ∙ is)
 
--- the first fault in a list, of which one condition is now another
+-- Of a list of conditions, the first that holds gives the fault. The first is replaced by an
+-- equivalent one, and the others by a consequence of them.
 next : {P Q A B : Type 0} {code : FileFault} {given : EntryMeaning} → (P → Q) → (Q → P)
     → (A → B × Refuses given) → (P × (given ≡ faulty code)) ⊎ ((P → ⊥) × A)
     → ((Q × (given ≡ faulty code)) ⊎ ((Q → ⊥) × B)) × Refuses given
@@ -87,7 +88,7 @@ says-cut P w v some all given (inl (none, is)) = (inl (none, is), is-fault given
 says-cut P w v some all given (inr (one, is)) = absurd (one (λ x h. h))
 
 module _ (o : DomainName) (earlier : List Entry) where
-  -- so many words spell no data
+  -- more than 65,538 words, with the type, spell no data
   no-data : (ws : List Word) → 65538 < length ws → Nothing (DataIs o earlier ws)
   no-data ws long d (t, is, (m, origin, says)) =
       omega (arith, long, length-drop 1 ws, few_words t (drop 1 ws) m d says)
@@ -117,7 +118,8 @@ module _ (o : DomainName) (earlier : List Entry) where
       go false true h = says-cut (λ n u. TtlSays u n) w v some all given h
       go false false h = (h, is-fault given _ h)
 
-  -- the meaning of a record by its first words after the owner, which are more than may be valid
+  -- a record of more words than may be valid means what its first k + 2 words after the owner mean:
+  -- a fault
   words-cut : (code : FileFault) (Owner : DomainName → Type 0) (k : ℕ) (ws : List Word)
       (given : EntryMeaning) → 65539 ≤ k → suc (suc k) ≤ length ws
       → RecordGives o earlier code Owner (fields (take (suc (suc k)) ws)) given
@@ -133,7 +135,7 @@ module _ (o : DomainName) (earlier : List Entry) where
           (omega (arith, length-take (suc m) (fields ws).others, long, few, most))
           (subst (λ f. RecordGives o earlier code Owner f given) is h)
 
-  -- an entry of more words than may be valid, by the first of them
+  -- an entry of more words than may be valid means what its first k + 3 words mean: a fault
   kind-cut : (k : ℕ) (b : Bool) (ws : List Word) (given : EntryMeaning) → 65539 ≤ k
       → suc (suc (suc k)) ≤ length ws
       → KindGives o earlier (kind_by_words b (take (suc (suc (suc k))) ws)) given

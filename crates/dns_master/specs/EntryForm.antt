@@ -16,6 +16,7 @@ pub data Step : Type 0 where
   over : Step
   onward : Bool → Step
 
+-- what follows a token that is read inside (true) or outside parentheses
 abbrev pub step : Bool → Token → Step
 step is_open blank = onward is_open
 step is_open comment = onward is_open
@@ -57,6 +58,7 @@ rest_in (after_line rest) = rest
 rest_in (at_parenthesis place) = place
 rest_in (at_stop is_open rest) = rest
 
+-- how reading an entry without a misplaced parenthesis ends: after its line end, or before a stop
 abbrev pub ending_of : Bool → Bool → Octets → Ending
 ending_of is_ended is_open rest = if is_ended then after_line rest else at_stop is_open rest
 

@@ -9,10 +9,11 @@ use Rattle.dns_master.specs.declared.entry.Ending.{Ending}
 use Rattle.dns_master.specs.declared.entry.EntryScan.{EntryScan}
 use Rattle.dns_master.specs.declared.entry.Ending.TheVariants.{AfterLine, AtParenthesis, AtStop}
 
--- the most words of an entry that are stored while a file is read
+-- the most words of an entry that are stored while a file is read: one more than a valid one has
 abbrev pub most_words : ℕ
 most_words = 65542
 
+-- an ending, as the definitions have it
 abbrev pub shown_ending : Ending → places.Ending
 shown_ending (AfterLine rest) = after_line rest.now
 shown_ending (AtParenthesis place) = at_parenthesis place.now

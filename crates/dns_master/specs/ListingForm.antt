@@ -19,8 +19,8 @@ use Rattle.dns_master.specs.declared.scanned.ScannedEntry.{ScannedEntry}
 use Rattle.dns_master.specs.declared.scanned.Judged.{Judged}
 use Rattle.dns_master.specs.declared.scanned.Judged.TheVariants.{Gives, Faulty}
 
--- the tokens of the entry that begins a text, which ends with the `total` examined octets, and how
--- reading it ends
+-- the tokens of the entry that begins a text, and how reading the entry ends; `text` is the end of
+-- the octets that are examined, `total` in number
 abbrev pub entry_read : ℕ → Octets → List PlacedToken × places.Ending
 entry_read total text = read_entry (length text) false (total - length text) text
 
@@ -35,6 +35,7 @@ pub record EntryScanned (s : ScannedEntry) : Type 0 where
   pub short : length s.rest.now ≤ length s.octets.now
   pub few : length s.octets.now ≤ 16777216
 
+-- the entry that was read, as the definitions have it
 abbrev pub placed : ScannedEntry → PlacedEntry
 placed s = entry_at (length s.octets.now) s.past.now s.rest.now
 
@@ -60,7 +61,8 @@ pub record EntryOwn (o : DomainName) (earlier : List Entry) (e : Entry)
   pub given : GivesOwn o earlier e rs
   pub origin : Nothing (OriginIs o (e ∷ earlier)) → ⊥
 
--- what an entry gives, or its fault, whatever entries are known; its record, if any, is `last`
+-- what an entry gives, or its fault, after any earlier entries that lead to `k`; its record, if it
+-- gives one, is `last`
 abbrev pub Judges : Earlier → PlacedEntry → ResourceRecord → Judged → Type 0
 Judges k e last (Gives is_record) =
     (o : DomainName) (earlier : List Entry) → LooksBack o earlier k
@@ -69,7 +71,7 @@ Judges k e last (Faulty f) =
     (o : DomainName) (earlier : List Entry) → LooksBack o earlier k
     → HasFault o earlier e (shown_fault f)
 
--- an entry that was read is passed, whatever entries are known
+-- an entry that was read is passed, after any earlier entries that lead to `old`
 abbrev pub PassesEntry : Earlier → ScannedEntry → Earlier → Type 0
 PassesEntry old s new =
     EntryScanned s → (o : DomainName) (earlier : List Entry) → LooksBack o earlier old

@@ -1,4 +1,4 @@
--- How the code's reading of an entry corresponds to that of the definitions.
+-- Places in a text, and words among tokens, as the definitions have them.
 use Rattle.std.specs.Prelude.{List}
 use Rattle.std.specs.List.{filter_map}
 use Rattle.dns_spec.specs.DataText.{Word}

@@ -13,6 +13,7 @@ use dns_name::Name;
 use dns_rdata::{RdataFault, Word};
 
 impl Blame {
+    /// The blame for the word after this number of words of the entry.
     pub(crate) fn after(words: usize, code: ReadCode) -> Blame
         requires { code ≢ ReadCode.SourceFailed }
         ensures code { result.code ≡ code }
@@ -27,7 +28,7 @@ impl Blame {
     }
 }
 
-/// The blame for an invalid owner, with the number of the name's fault unless it is quoted.
+/// The blame for an invalid owner, with the number of the name's fault unless the word is quoted.
 pub(crate) fn owner_blame(word: &Word<'_>, origin: &Name) -> Blame
     requires { Nothing (SpelledName origin.now word.now) }
     ensures code { result.code ≡ ReadCode.BadOwner }
@@ -47,6 +48,7 @@ pub(crate) fn owner_blame(word: &Word<'_>, origin: &Name) -> Blame
 }
 
 impl RecordFault {
+    /// A fault without a number.
     pub(crate) fn of(code: ReadCode) -> RecordFault
         requires { code ≢ ReadCode.SourceFailed }
         ensures code { result.code ≡ code }
@@ -69,8 +71,9 @@ pub(crate) fn data_fault(fault: RdataFault) -> RecordFault
     }
 }
 
-/// The blame for the fault of a record, from the words after its owner, which follow `before` words
-/// of the entry; `in_data` words from the type on precede the one at fault in data.
+/// The blame for the fault of a record. `words` are the words of the entry after its owner, and
+/// `before` is the number of words before them. If the data is invalid, `in_data` words, counted
+/// from the type on, come before the one at fault.
 #[cold]
 #[inline(never)]
 pub(crate) fn record_blame(
@@ -94,8 +97,8 @@ pub(crate) fn record_blame(
     }
 }
 
-// The number of words before the one at fault, from the words after the owner. A TTL or a class at
-// fault is the first of these words, or the second after the other of the two.
+// How many of the words after the owner come before the one at fault. A TTL at fault is the first
+// of them, or the second after a class; a class at fault is the first, or the second after a TTL.
 #[tactic(auto, using(crate::proofs::JudgeSteps::fields_few))]
 fn words_before(code: ReadCode, words: &[Word<'_>], in_data: usize) -> usize
     requires blamed { code ≡ ReadCode.BadData

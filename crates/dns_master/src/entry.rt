@@ -20,8 +20,7 @@ use std::alloc::AllocError;
 /// The most words of an entry that are stored while a file is read: one more than a valid entry may
 /// have.
 // Before the data of a record come at most its owner, TTL, class and type. Data has at most 65,535
-// octets, each spelled by a word at most, and the generic form has two more words, `\#` and the
-// length.
+// octets, and at most one word for each. The generic form has two more words, `\#` and the length.
 pub(crate) const MOST_WORDS: usize = 65_542;
 
 /// How reading an entry ends.
@@ -35,11 +34,12 @@ pub(crate) enum Ending<'a> {
     AtStop(bool, &'a [u8]),
 }
 
-/// How reading an entry ended.
+/// What reading an entry finds besides its words.
 #[derive(Clone, Copy)]
 pub(crate) struct EntryScan<'a> {
     /// The number of line ends in the entry.
     pub(crate) lines: u32,
+    /// How reading the entry ends.
     pub(crate) ending: Ending<'a>,
 }
 
@@ -81,6 +81,7 @@ pub(crate) fn read_entry<'a>(
     Ok(EntryScan { lines, ending })
 }
 
+/// The word that a token is, if it is a word or a quoted string.
 pub(crate) fn word_of(token: Token<'_>) -> Option<Word<'_>>
     ensures { result ≡ word_of (shown_token token.entry) }
 {
@@ -117,7 +118,8 @@ pub(crate) fn step_after(token: Token<'_>, is_open: bool) -> Progress
 /// at the end of a text that does not go on. `goes_on` says whether the text goes on past its
 /// limit, if that is known.
 ///
-/// Returns `None` if only more text could decide that. Fails with the lexical fault of the entry.
+/// Returns `None` if only more text could decide whether the entry is complete. Fails with the
+/// lexical fault of the entry.
 #[tactic(auto, using(crate::proofs::Refusals::other_than_long))]
 pub(crate) fn rest_after<'a>(
     ending: Ending<'a>,
@@ -178,8 +180,8 @@ fn stop_fault(rest: &[u8], is_open: bool, goes_on: bool) -> Option<ReadCode>
 }
 
 // Returns `fault`, the fault of the text `rest`, with which no token begins or continues; or
-// returns `TooLong` if only octets past the limit could decide that, because the text may begin an
-// escape or CR LF.
+// returns `TooLong` if only octets past the limit could decide that, because the text is empty, or
+// may be the beginning of an escape or of CR LF.
 fn unless_cut_short(goes_on: bool, rest: &[u8], fault: ReadCode) -> ReadCode
     ensures value { fault_of result ≡ unless_cut_short (extent_by goes_on) rest.now
         (fault_of fault) }

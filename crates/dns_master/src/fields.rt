@@ -32,6 +32,8 @@ impl<'a, 'w> Model for Fields<'a, 'w> {
 }
 
 impl<'a, 'w> Fields<'a, 'w> {
+    /// The fields of a record, from the words after its owner: for `IN A 192.0.2.1`, no TTL, the
+    /// class `IN`, and the other words `A 192.0.2.1`.
     #[inline(always)]
     pub(crate) fn of(words: &'a [Word<'w>]) -> Fields<'a, 'w>
         ensures { result ≡ fields words.now }
@@ -47,6 +49,7 @@ impl<'a, 'w> Fields<'a, 'w> {
         }
     }
 
+    // The fields of a record whose TTL comes first, from the words after it.
     #[inline(always)]
     fn after_ttl(ttl: &'a Word<'w>, words: &'a [Word<'w>]) -> Fields<'a, 'w>
         ensures { result ≡ class_after ttl.now words.now }
@@ -59,6 +62,7 @@ impl<'a, 'w> Fields<'a, 'w> {
         Fields { ttl, class, others }
     }
 
+    // The fields of a record whose class comes first, from the words after it.
     #[inline(always)]
     fn after_class(class: &'a Word<'w>, words: &'a [Word<'w>]) -> Fields<'a, 'w>
         ensures { result ≡ ttl_after class.now words.now }
@@ -72,7 +76,7 @@ impl<'a, 'w> Fields<'a, 'w> {
     }
 }
 
-// Whether a word is unquoted and begins with a digit.
+// Whether a word is unquoted and begins with a digit, as a TTL does but no class or type.
 pub(crate) fn is_ttl_word(word: &Word<'_>) -> bool
     ensures { result ≡ is_ttl_word word.now }
 {
@@ -100,12 +104,14 @@ fn is_class_name(raw: &[u8]) -> bool
     is_word(b"in", raw) || is_word(b"ch", raw) || is_word(b"cs", raw) || is_word(b"hs", raw)
 }
 
+// Whether a class is stated, and it is not IN, which is `CLASS1` too (RFC 3597 5).
 pub(crate) fn is_other_class(stated: Option<&Word<'_>>) -> bool
     ensures { result ≡ is_other_class (option_copied stated.entry) }
 {
     stated.is_some_and(|word| !(is_word(b"in", word.raw) || is_word(b"class1", word.raw)))
 }
 
+// The type that the first word names, if zones may have that type, and the words after it.
 #[inline(always)]
 pub(crate) fn type_and_words<'a, 'w>(words: &'a [Word<'w>]) -> Option<(RType, &'a [Word<'w>])>
     ensures { MatchOption result (Nothing (TypeIs words.now))

@@ -21,10 +21,10 @@ use std::io::Read;
 /// The most faults that are listed.
 pub const MOST_LISTED: usize = 1_000;
 
-/// The faults of a text, in order: at most 1,000, and whether there are more.
+/// The faults of a text, in order.
 #[derive(Drop)]
 pub struct FaultList {
-    /// The faults.
+    /// The first faults, at most 1,000.
     pub faults: Vec<EntryFault>,
     /// Whether there are more.
     pub has_more: bool,
@@ -53,7 +53,7 @@ impl FaultList {
     }
 }
 
-/// Reads the octets of a file: all, or those up to one past its limit, which is 16,777,216.
+/// Reads the octets of a file, but at most 16,777,217: one octet past its limit.
 ///
 /// Fails with `SourceFailed` if the source fails, and with `NoMemory` only if allocation fails, in
 /// each case with line 0. The octets that were read are lost then.
@@ -113,7 +113,7 @@ fn list_octets<C: RecordCollection>(
     let mut buffers = DataBuffers::new(alloc);
     let mut words = Vec::new(alloc);
     let mut rest = octets;
-    // Only the last entry may be empty, so there are fewer than this many.
+    // Only the last entry may be empty, so there are at most this many.
     let mut left = octets.len() + 1;
     'entries: while left > 0 {
         left -= 1;

@@ -21,6 +21,7 @@ pub struct Span {
 }
 
 impl Span {
+    /// The empty place after this number of octets.
     pub(crate) fn empty(begins: usize) -> Span
         ensures { shown_place result ≡ empty_place begins }
     {
@@ -30,8 +31,8 @@ impl Span {
         }
     }
 
-    /// The place of the octet that begins a text, which is empty at a line end and at the end of
-    /// the text.
+    /// The place of the octet that begins `text`, which comes after `begins` octets. At a line end
+    /// and at the end of the text the place is empty.
     pub(crate) fn of_octet(begins: usize, text: &[u8]) -> Span
         requires { begins ≤ 16777217 }
         ensures { shown_place result ≡ octet_place begins text.now }
@@ -44,8 +45,8 @@ impl Span {
     }
 }
 
-/// The octets that can't continue an entry, at the end of `rest`, with which no token begins. If an
-/// unended string begins it, they are the octets after the string's own.
+/// The end of `rest`, which begins with no token, from the first octet that can't continue an
+/// entry. If `rest` begins with an unended string, this is the first octet after the string's own.
 pub(crate) fn stop_octets(rest: &[u8]) -> &[u8]
     ensures value { result.now ≡ stop_octets (stop_at rest.now) }
     ensures short { length result.now ≤ length rest.now }
@@ -67,8 +68,8 @@ pub(crate) fn next_line(text: &[u8]) -> &[u8]
     }
 }
 
-/// The place of a lexical fault with this code. `past` follows the text, if it goes on past its
-/// limit.
+/// The place of a lexical fault with this code. `text` is the text of a file up to its limit, and
+/// `past` the octet past the limit, if there is one.
 pub(crate) fn stop_place(text: &[u8], past: &[u8], code: ReadCode, ending: Ending<'_>) -> Span
     requires { length text.now ≤ 16777216 }
     ensures { shown_place result ≡ fault_place (length text.now) past.now (fault_of code)
@@ -93,7 +94,8 @@ fn end_octets(ending: Ending<'_>) -> &[u8]
     }
 }
 
-/// Where reading goes on after an entry; `None` at the end of the text.
+/// The text in which the next entry is read: from the next line on, after a fault. `None` if
+/// reading the entry reached the end of the text, and found no line end there.
 pub(crate) fn text_after(ending: Ending<'_>) -> Option<&[u8]>
     ensures value { MatchOption result (text_after (shown_ending ending.entry) ≡ None)
         (λ rest. text_after (shown_ending ending.entry) ≡ Some rest.now) }

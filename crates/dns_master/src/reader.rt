@@ -27,10 +27,10 @@ pub const MOST_RECORDS: usize = 100_000;
 /// may have at most 100,000 records and 16,777,216 octets. At most one octet more than that is read
 /// from the source.
 ///
-/// A faulty file yields no records. The fault has the line of the first faulty entry. Its code is
-/// that of the leftmost fault with a code of `R01` to `R04` or `R15` in that entry; if there is no
-/// such fault, it is the lowest code that applies to the entry. The code is `R16` if the source
-/// failed, and `R17` only if allocation failed.
+/// A faulty file yields no records. The fault has the first line of the first faulty entry. Its
+/// code is that of the leftmost fault with a code of `R01` to `R04` or `R15` in that entry; if it
+/// has no such fault, it is the lowest code that applies to the entry. The code is `R16` if the
+/// source failed, and `R17` only if allocation failed.
 pub fn read_zone<R: Read>(
     alloc: Global,
     origin: &Name,
@@ -84,8 +84,8 @@ pub(crate) struct Reader {
 }
 
 impl Reader {
-    /// Takes the first entry of a text. Returns whether the entry is a record, and the text after
-    /// the entry. The record, if it is one, is in `earlier.last`.
+    /// Takes the first entry of a text. Returns whether the entry gives a record, which is then
+    /// `earlier.last`, and the text after the entry.
     ///
     /// `goes_on` says whether the text goes on past its limit; if it is `None`, more text may
     /// follow. Takes nothing and returns `None` if only more text could decide where the entry

@@ -118,8 +118,8 @@ fn word_end(text: &[u8]) -> Option<usize>
     text.iter().position(|octet| !RunKind::Word.has(*octet))
 }
 
-// A number of octets at the front of a text all of which may appear in a string unescaped. Whole
-// groups are counted.
+// The number of octets in the groups at the front of a text, up to the first group with an octet
+// that may not appear in a string unescaped. Octets after the last whole group are not counted.
 fn plain_groups(text: &[u8]) -> usize
     ensures bound { result ≤ length text.now }
     ensures plain { list_all is_string_octet (take result text.now) ≡ true }

@@ -19,15 +19,14 @@ use crate::token::first_token;
 use dns_rdata::{DataBuffers, Word};
 use std::alloc::AllocError;
 
-/// A fault of a file: its code; the number of an owner's fault or of data's; its place; and the
-/// number of octets before its entry.
+/// A fault of an entry of a file.
 #[derive(Clone, Copy, Debug, PartialEq, Eq)]
 pub struct EntryFault {
     /// The code.
     pub code: ReadCode,
     /// The number of the fault of an owner's name, or of the data.
     pub number: Option<u8>,
-    /// The place.
+    /// The place of the fault.
     pub place: Span,
     /// The number of octets before the entry.
     pub entry: usize,
@@ -49,12 +48,13 @@ pub(crate) struct ScannedEntry<'a, 'w> {
     /// The octets from the beginning of the entry on.
     pub(crate) rest: &'w [u8],
     pub(crate) words: &'a [Word<'w>],
-    /// How reading the entry ended.
+    /// What reading the entry found besides its words.
     pub(crate) read: EntryScan<'w>,
 }
 
 impl ScannedEntry<'_, '_> {
-    /// Takes the entry. A record that it gives is then `earlier.last`.
+    /// Takes the entry, even if it has a lexical fault, which is then its fault, whatever others it
+    /// has. A record that the entry gives is then `earlier.last`.
     pub(crate) fn take(
         &self,
         earlier: &mut Earlier,
@@ -89,7 +89,7 @@ impl ScannedEntry<'_, '_> {
         ending_fault(self.read.ending, !self.past.is_empty())
     }
 
-    // The lexical fault of the entry, whose code is this one.
+    // The lexical fault of the entry, which has this code.
     fn lexical_fault(&self, code: ReadCode) -> EntryFault
         requires { length self.now.octets.now ≤ 16777216 }
         ensures code { result.code ≡ code }
@@ -113,7 +113,7 @@ impl ScannedEntry<'_, '_> {
         self.octets.len().saturating_sub(self.rest.len())
     }
 
-    // The fault of the entry that this blame states.
+    // The fault of the entry, from why it is faulty.
     fn fault_by(&self, blame: Blame) -> EntryFault
         requires short { length self.now.rest.now ≤ length self.now.octets.now }
         ensures code { result.code ≡ blame.code }
@@ -135,7 +135,7 @@ impl ScannedEntry<'_, '_> {
     }
 
     // The place of the word after `number` words; the end of the entry if it has no such word.
-    // Reads the entry again, because few entries are faulty.
+    // Reads the entry again, so that words need not keep their places: few entries are faulty.
     fn place_after(&self, number: usize) -> Span
         requires short { length self.now.rest.now ≤ length self.now.octets.now }
         ensures { shown_place result ≡ place_after number (placed self.now) }

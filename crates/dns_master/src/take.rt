@@ -55,9 +55,9 @@ impl Earlier {
         Ok(())
     }
 
-    /// Takes an entry without a lexical fault: its words, and whether it begins with a blank.
-    /// Returns whether it gives a record, which is then `last`. It gives none if it is not a
-    /// record, or inherits an invalid TTL.
+    /// Takes an entry: its words, and whether it begins with a blank. Returns whether it gives a
+    /// record, which is then `last`. It gives none if it is not a record, or inherits an invalid
+    /// TTL. Its lexical faults are not examined here.
     pub(crate) fn take(
         &mut self,
         is_blank_led: bool,
@@ -110,6 +110,8 @@ impl Earlier {
         Err(Blame::after(0, ReadCode::UnknownDirective))
     }
 
+    // Takes `$ORIGIN`. If its first argument is a name, this is the origin from now on, even if the
+    // directive is faulty.
     fn take_origin(&mut self, words: &[Word<'_>]) -> Result<(), Blame>
         ensures passed { Passes self.old (directive (codes "$origin") words.now)
             self.new }
@@ -134,6 +136,7 @@ impl Earlier {
         Ok(())
     }
 
+    // Takes `$TTL`. Its first argument, even an invalid one, is the default TTL from now on.
     fn take_default(&mut self, words: &[Word<'_>]) -> Result<(), Blame>
         ensures passed { Passes self.old (directive (codes "$ttl") words.now)
             self.new }
@@ -178,9 +181,9 @@ impl Earlier {
         }
     }
 
-    // Takes a record whose owner is in `last`, from the words after its owner. After invalid data,
-    // `buffers` has the number of words from the type on before the one at fault. Out of line: if it
-    // were inlined, a check of a large zone would take 3 % more instructions.
+    // Takes a record whose owner is in `last`, from the words after its owner. If the data is
+    // invalid, `buffers.words_before_fault` counts the words before the one at fault, from the type
+    // on. Out of line: inlined, it would make a check of a large zone take 3 % more instructions.
     #[inline(never)]
     fn take_fields(
         &mut self,
@@ -226,7 +229,8 @@ impl Earlier {
         Ok(true)
     }
 
-    // The TTL in force for the record that was passed last; `is_stated` is whether it states one.
+    // The TTL in force for the record that was passed last, `Some(None)` if it is invalid.
+    // `is_stated` is whether the record states one.
     fn ttl_in_force(&self, is_stated: bool) -> Option<Option<u32>>
         ensures { result ≡ (if is_stated then self.now.stated_ttl
             else option_or self.now.default_ttl self.now.stated_ttl) }
@@ -237,7 +241,7 @@ impl Earlier {
         self.default_ttl.or(self.stated_ttl)
     }
 
-    // Passes a record whose TTL this word states.
+    // Passes a record, faulty or not: counts it, and keeps the TTL that it states, if any.
     #[inline(always)]
     fn pass_record(&mut self, stated: Option<&Word<'_>>)
         ensures passed { RecordPassed self.old (option_copied stated.entry) self.new }

@@ -100,6 +100,8 @@ fn first_eight(octets: &[u8]) -> u64
     u64::from_le_bytes(*front(octets))
 }
 
+// Whether two runs of equally many octets, 8 to 16, are equal. Compares their first eight octets
+// and their last eight, which may overlap.
 fn have_same_eights(left: &[u8], right: &[u8]) -> bool
     requires least { 8 ≤ length left.now }
     requires most { length left.now ≤ 16 }

@@ -27,9 +27,11 @@ const SPACE: &[u8] = b" ";
 // The number of octets that are written as hex digits before more room is made.
 const CHUNK: usize = 128;
 
+// The number of hex digits of a chunk, two for each octet.
 const CHUNK_DIGITS: usize = 256;
 
-// The most octets of the text of a string, with a space before it. No other word is longer.
+// The most octets of the text of a string, with a space before it. No other word is longer, except
+// the hex digits of the generic form, for which `put_unknown` makes room chunk by chunk.
 const STRING_ROOM: usize = MOST_STRING_TEXT + 1;
 
 impl Rdata {

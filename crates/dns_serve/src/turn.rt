@@ -8,7 +8,8 @@ use crate::turn_fault::TurnFault;
 use dns_answer::{UdpBuilder, respond_in};
 use dns_zone::{Steps, Zone};
 
-// The most octets that are kept of a datagram.
+// The most octets that are kept of a datagram: the most of a message over UDP (RFC 1035 4.2.1).
+// The device drops the others, so a longer datagram gets the reply to its first 512 octets.
 const MOST_KEPT: usize = 512;
 
 /// Receives one datagram, and sends the reply to its sender: true if a reply was sent, false if

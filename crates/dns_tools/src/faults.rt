@@ -120,8 +120,9 @@ fn zone_faults(alloc: Global, origin: &Name, store: Store) -> Result<CheckFaults
     }
 }
 
-// The faults of a zone that are listed beside the faults of its file: all, if the file has none;
-// else those that no further record removes.
+// The faults of a zone that are listed beside the faults of its file: all, if the file has none.
+// Otherwise the zone lacks the records of the faulty entries, so only those faults of the zone are
+// listed that no further record removes.
 fn listed(list: &FaultList, mut zone: CheckFaults) -> CheckFaults
     ensures { (found : List all.EntryFault) (z : ZoneContents) → IsList list.now found
         → faults_in zone ≡ faults z → faults_in result ≡ all.zone_faults found z }
@@ -132,7 +133,8 @@ fn listed(list: &FaultList, mut zone: CheckFaults) -> CheckFaults
     zone
 }
 
-// Whether no further record removes a fault with this code.
+// Whether no further record removes a fault with this code: whether it is neither a missing SOA
+// (`Z01`), nor missing NS records (`Z04`), nor a missing address (`Z10`).
 fn is_lasting(code: u8) -> bool
     ensures { result ≡ is_lasting code }
 {

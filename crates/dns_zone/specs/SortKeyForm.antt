@@ -28,7 +28,7 @@ abbrev pub own_order : ResourceRecord → ResourceRecord → Ordering
 own_order r s =
     ordering_then (nat_cmp r.rtype s.rtype) (ordering_then (data_order r s) (nat_cmp r.ttl s.ttl))
 
--- by the numbers, then by the keys of the owners, then by the records of one owner
+-- the order of sort keys: by their numbers, then by the keys of the owners, then by `own_order`
 abbrev pub sort_key_order : Octets → List ResourceRecord → ResourceRecord → SortKey → SortKey → Ordering
 sort_key_order keys rs first p q =
     ordering_then (nat_cmp p.front q.front) (ordering_then (nat_cmp p.next q.next)

@@ -77,7 +77,7 @@ few_typed t origin ws d fits h = by_row (row_of t) refl h
         (entry_passes (λ (row : TypeRow). row.number == t)
         (λ (row : TypeRow). nat_le (length row.fields) 7) type_table row is refl) fits h
 
--- the most words that spell data: `\\#`, the length, and a word for each octet
+-- the most words that spell data: `\#`, the length, and a word for each octet
 pub few_words : (t : ℕ) (ws : List Word) (origin : DomainName) (d : Octets)
     → Says t ws origin d → length ws ≤ 65537
 few_words t [] origin d h = omega arith

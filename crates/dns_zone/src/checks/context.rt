@@ -50,6 +50,7 @@ impl<'a> CheckContext<'a> {
         self.key
     }
 
+    /// The records that a checked name owns.
     pub(crate) fn own(&self, one: &CheckedName<'_>) -> &'a [StoredRecord]
         requires rising { one.now.first ≤ one.now.end }
         requires within { one.now.end ≤ length self.now.records }
@@ -71,7 +72,7 @@ impl<'a> CheckContext<'a> {
         }
     }
 
-    // The checked name that the target is, if it is at an index that is tried first. Needs no key.
+    // The checked name that is the target, if it is at a probable index. Makes no key.
     fn soon_found(&self, target: &NameRef<'_>, last: &mut LastTarget) -> Option<&'a CheckedName<'a>>
         ensures { IfSome result (λ one. IsChecked self.now target.now one.now) }
     {
@@ -142,6 +143,7 @@ impl<'a> CheckContext<'a> {
         }
     }
 
+    // The same for this target.
     fn name_faults(
         &self,
         target: &NameRef<'_>,

@@ -33,7 +33,7 @@ pub(crate) struct LastTarget {
     index: usize,
     // The other index that is tried first for the next target.
     next: usize,
-    // How many names `pass_name` has passed, with the one under check.
+    // How many names `pass_name` has passed, including the one under check.
     passed: usize,
 }
 
@@ -90,7 +90,7 @@ impl LastTarget {
         [self.index, self.next]
     }
 
-    /// Keeps the index at which a target is, or at which the name before it is.
+    /// Keeps the index of a target; if it is no checked name, that of the last one before it.
     pub(crate) fn keep_index(&mut self, index: usize)
         ensures { self.new ≡ self.old }
     {

@@ -60,6 +60,7 @@ fn sort_distinct(
         first,
     };
     let kept = order.keep_rising(sort_keys.as_mut_slice());
+    // If all rise, there are no duplicates.
     if kept < sort_keys.len() {
         order.sort(sort_keys, kept)?;
         sort_keys.dedup_by(|next, one| order.are_same(next, one));
@@ -77,7 +78,8 @@ fn gather(records: &mut Vec<StoredRecord>, sort_keys: &mut [SortKey])
     ensures { records.new.items ≡ map (placed records.old.items no_record) sort_keys.old }
 {
     'sort_keys: for to in 0..sort_keys.len() {
-        // A record that had to make way is at the index that the sort key there has now.
+        // Indices before `to` are filled. If the record was at one of them, it was swapped to the
+        // index that the sort key there has now.
         let mut from = sort_keys[to].at as usize;
         'moved: while from < to {
             from = sort_keys[from].at as usize;

@@ -72,7 +72,7 @@ fn padded(octets: &[u8]) -> [u8; 8]
     eight
 }
 
-// Fewer sort keys than these are passed by one that is moved back.
+// A sort key is moved back past fewer greater ones than this.
 const NEAR: usize = 7;
 
 /// The canonical order of records, by their sort keys.
@@ -103,9 +103,10 @@ impl<'a> Order<'a> {
     }
 
     /// Moves sort keys that rise to the beginning of the list, and returns how many they are. Most
-    /// files list their names in order, with few exceptions, and some the records of a name in none.
-    /// So a sort key is moved back past a few greater ones. If these are many, they are the
-    /// exceptions, and are left out.
+    /// files list their names in order, with few exceptions; some list the records of a name in no
+    /// order. So a sort key is moved back past up to six greater ones. Seven are taken for the
+    /// exceptions, and left out in its stead. A sort key with more greater ones is left out itself,
+    /// and so is one that is equal to another.
     pub(crate) fn keep_rising(&self, sort_keys: &mut [SortKey]) -> usize
         ensures moved { IsPermutation sort_keys.old sort_keys.new }
         ensures count { result ≤ length sort_keys.new }
@@ -149,7 +150,7 @@ impl<'a> Order<'a> {
                 Ordering::Equal => return None,
                 Ordering::Greater => {}
             }
-            // After two comparisons, whether it belongs farther back.
+            // After two comparisons, one more tells whether it belongs too far back.
             let is_far = to + 2 == kept
                 && kept > NEAR
                 && self
@@ -177,7 +178,7 @@ impl<'a> Order<'a> {
         self.compare_tied(one, other)
     }
 
-    // Compares two records with the same numbers. Out of line, for the sake of `sort`.
+    // Compares two records with the same numbers. Out of line, to keep `compare` short in `sort`.
     #[inline(never)]
     fn compare_tied(&self, one: &SortKey, other: &SortKey) -> Ordering
         ensures { result ≡ ordering_then (slice_cmp nat_cmp

@@ -15,7 +15,7 @@ use std::marker::Model;
 /// A record. Takes 72 octets, and one allocation if its owner and data exceed 62 octets together.
 #[derive(Drop)]
 pub(crate) struct StoredRecord {
-    // The owner in wire form, followed by the data.
+    // The owner in wire form, of `owner_octets` octets, followed by the data.
     octets: RecordOctets,
     owner_octets: u8,
     /// Its type.
@@ -73,7 +73,7 @@ impl StoredRecord {
         self.octets.borrowed().split_at(count).1
     }
 
-    /// Whether two records are the same, as in a set (RFC 2181 5).
+    /// Whether two records are the same: owner, type and data (RFC 2181 5), and TTL.
     pub(crate) fn is_same(&self, other: &StoredRecord) -> bool
         ensures { result ≡ records_equal self.now other.now }
     {
