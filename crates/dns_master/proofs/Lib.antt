@@ -11,7 +11,7 @@ pub mod SourceSteps
 pub mod EntriesLoop
 pub mod ScanSteps
 pub mod EarlierSteps
-pub mod JudgeSteps
+pub mod TakeSteps
 pub mod ListingSteps
 pub mod FaultListSteps
 pub mod GivenCount

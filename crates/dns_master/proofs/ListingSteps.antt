@@ -9,7 +9,7 @@ use Rattle.dns_spec.specs.AllFaults.{HasFault, NumberIs, PlaceIs, GivesOwn}
 use Rattle.dns_spec.proofs.ZoneTexts.EntryReading.{tokens_of}
 use Rattle.dns_master.proofs.TextSteps.{blank-front, none-front}
 use Rattle.dns_master.specs.PlaceForm.{words_read}
-use Rattle.dns_master.specs.JudgeForm.{Blamed, BlamedWord, KindOwn}
+use Rattle.dns_master.specs.TakeForm.{Blamed, BlamedWord, KindOwn}
 use Rattle.dns_spec.specs.Meaning.{Nothing}
 use Rattle.dns_spec.specs.FileFaults.{fault_code}
 use Rattle.dns_spec.specs.ZoneText.{EntryStop, text_over, in_string, in_token, token_fault, string_fault, unless_cut_short, is_cut_short, begins_line_end, begins_with}

@@ -4,7 +4,7 @@ use Rattle.dns_spec.specs.AllFaults.{LookBack}
 use Rattle.dns_spec.specs.EntryPlaces.{at_stop}
 use Rattle.dns_spec.proofs.ZoneTexts.SomeMeaning.{Known, known_more, nothing_known, sort_sure}
 use Rattle.dns_master.specs.EarlierForm.{LooksBack, Passed}
-use Rattle.dns_master.specs.JudgeForm.{KindOwn}
+use Rattle.dns_master.specs.TakeForm.{KindOwn}
 use Rattle.dns_master.proofs.EntryCuts.{reads-more}
 use Rattle.dns_master.proofs.TextSteps.{over-at_end, nothing-means, past-means}
 use Rattle.dns_master.proofs.EntriesLoop.{after-nil, after-append}

@@ -8,6 +8,6 @@ pub mod SourceForm
 pub mod PieceForm
 pub mod PlaceForm
 pub mod EarlierForm
-pub mod JudgeForm
+pub mod TakeForm
 pub mod ListingForm
 pub mod FaultListForm

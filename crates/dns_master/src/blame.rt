@@ -4,7 +4,7 @@ ghost use Rattle.dns_spec.specs.NameText.{name_fault};
 ghost use Rattle.dns_spec.specs.Meaning.{Nothing, fields};
 ghost use Rattle.dns_master.specs.Codes.{fault_of};
 ghost use Rattle.dns_master.specs.RecordForm.{SpelledName};
-ghost use Rattle.dns_master.specs.JudgeForm.{ForDataFault, words_to};
+ghost use Rattle.dns_master.specs.TakeForm.{ForDataFault, words_to};
 
 use crate::earlier::{Blame, RecordFault};
 use crate::fields::{Fields, is_class_word, is_ttl_word};
@@ -99,7 +99,7 @@ pub(crate) fn record_blame(
 
 // How many of the words after the owner come before the one at fault. A TTL at fault is the first
 // of them, or the second after a class; a class at fault is the first, or the second after a TTL.
-#[tactic(auto, using(crate::proofs::JudgeSteps::fields_few))]
+#[tactic(auto, using(crate::proofs::TakeSteps::fields_few))]
 fn words_before(code: ReadCode, words: &[Word<'_>], in_data: usize) -> usize
     requires blamed { code ≡ ReadCode.BadData
         → in_data ≤ 1 + length (fields words.now).others }

@@ -4,7 +4,7 @@ ghost use Rattle.std.specs.Option.{option_copied, option_or};
 ghost use Rattle.dns_spec.specs.TypeText.{text_in_lower_case};
 ghost use Rattle.dns_spec.specs.Meaning.{directive, fields, is_directive, kind_by_words};
 ghost use Rattle.dns_master.specs.EarlierForm.{LooksBack, Passes, RecordPassed, handed};
-ghost use Rattle.dns_master.specs.JudgeForm.{Blames, GivesKind, FieldsOwn, FieldsBlames, RecordBlames};
+ghost use Rattle.dns_master.specs.TakeForm.{Blames, GivesKind, FieldsOwn, FieldsBlames, RecordBlames};
 
 use crate::blame::{data_fault, owner_blame, record_blame};
 use crate::earlier::{Blame, Earlier, RecordFault};

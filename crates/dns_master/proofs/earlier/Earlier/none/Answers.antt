@@ -1,4 +1,4 @@
-use Rattle.dns_master.proofs.JudgeSteps.{no_data-kept}
+use Rattle.dns_master.proofs.TakeSteps.{no_data-kept}
 use Rattle.dns_master.proofs.earlier.Earlier.none.Goals as goal
 
 pub invariant_of-none : goal.invariant_of-none

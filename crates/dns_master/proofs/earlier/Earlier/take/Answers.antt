@@ -1,8 +1,8 @@
 use Rattle.dns_master.proofs.Common.{rules, ◌≡◌, true, false, refl, ap, subst, sym, ◌∙◌, [], Some, Fields, is_directive, kind_by_words, LastOwner, SpelledOwner}
 use Rattle.dns_master.specs.EarlierForm.{handed, owner_of}
-use Rattle.dns_master.specs.JudgeForm.{KindOwn, Blamed}
+use Rattle.dns_master.specs.TakeForm.{KindOwn, Blamed}
 use Rattle.dns_master.proofs.EarlierSteps.{kind-unowned, kind-owned, nothing-passed, owned-passed, unowned-passed, stated-by}
-use Rattle.dns_master.proofs.JudgeSteps.{owned-own, owned-blamed, unowned-own, unowned-blamed, map-ok, map-err}
+use Rattle.dns_master.proofs.TakeSteps.{owned-own, owned-blamed, unowned-own, unowned-blamed, map-ok, map-err}
 use Rattle.dns_master.proofs.earlier.Earlier.take.Goals as goal
 
 pub returns-in_default-clause-passed : goal.returns-in_default-clause-passed

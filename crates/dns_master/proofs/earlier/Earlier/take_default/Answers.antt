@@ -1,8 +1,8 @@
 use Rattle.dns_master.proofs.Common.{rules, ◌≡◌, ◌∙◌, false, refl, ap, subst, sym, codes, directive, length, [], is_none, ◌<◌}
 use Rattle.std.proofs.lemmas.List.{nil_from_length}
-use Rattle.dns_master.specs.JudgeForm.{Blamed, KindOwn}
+use Rattle.dns_master.specs.TakeForm.{Blamed, KindOwn}
 use Rattle.dns_master.proofs.EarlierSteps.{directive-passed, default-passed}
-use Rattle.dns_master.proofs.JudgeSteps.{said-by, default-blamed, default-own}
+use Rattle.dns_master.proofs.TakeSteps.{said-by, default-blamed, default-own}
 use Rattle.dns_master.proofs.earlier.Earlier.take_default.Goals as goal
 
 pub returns-in_default-clause-passed : goal.returns-in_default-clause-passed

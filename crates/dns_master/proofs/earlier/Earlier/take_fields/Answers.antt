@@ -3,8 +3,8 @@ use Rattle.std.specs.Option.{option_copied}
 use Rattle.dns_rdata.specs.RdataFault.{fault_code}
 use Rattle.dns_master.specs.EarlierForm.{SeenTtl, LooksBackTo}
 use Rattle.dns_master.specs.declared.earlier.Earlier.{Earlier}
-use Rattle.dns_master.specs.JudgeForm.{FieldsBlamed, FieldsGive}
-use Rattle.dns_master.proofs.JudgeSteps.{ttl-valid, in-force, in-force_short, fields-by, class-blamed, type-blamed, no_ttl-blamed, data-blamed, data-detail, count-blamed, record-own, none-own, fields-data_few, said-lowered, too-many, not-too-many}
+use Rattle.dns_master.specs.TakeForm.{FieldsBlamed, FieldsGive}
+use Rattle.dns_master.proofs.TakeSteps.{ttl-valid, in-force, in-force_short, fields-by, class-blamed, type-blamed, no_ttl-blamed, data-blamed, data-detail, count-blamed, record-own, none-own, fields-data_few, said-lowered, too-many, not-too-many}
 use Rattle.dns_master.proofs.earlier.Earlier.take_fields.Goals as goal
 use Rattle.dns_master.proofs.earlier.Earlier.take_fields.Goals.{After-is_other_class, After-ttl_in_force}
 

@@ -1,8 +1,8 @@
 use Rattle.dns_master.proofs.Common.{rules, ◌≡◌, ◌∙◌, false, refl, ap, subst, sym, codes, Word, SpellsName, directive, length, [], ◌<◌}
 use Rattle.std.proofs.lemmas.List.{nil_from_length}
-use Rattle.dns_master.specs.JudgeForm.{Blamed, KindOwn}
+use Rattle.dns_master.specs.TakeForm.{Blamed, KindOwn}
 use Rattle.dns_master.proofs.EarlierSteps.{directive-passed, origin-passed}
-use Rattle.dns_master.proofs.JudgeSteps.{origin-blamed, origin-own}
+use Rattle.dns_master.proofs.TakeSteps.{origin-blamed, origin-own}
 use Rattle.dns_master.proofs.earlier.Earlier.take_origin.Goals as goal
 
 pub returns-in_default-clause-passed : goal.returns-in_default-clause-passed

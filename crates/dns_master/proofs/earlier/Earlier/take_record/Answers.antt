@@ -1,5 +1,5 @@
 use Rattle.dns_master.proofs.Common.{subst, sym, ◌∙◌, fields, fault_of}
-use Rattle.dns_master.specs.JudgeForm.{FieldsBlamed}
+use Rattle.dns_master.specs.TakeForm.{FieldsBlamed}
 use Rattle.dns_master.proofs.earlier.Earlier.take_record.Goals as goal
 
 pub returns-in-Err-clause-err : goal.returns-in-Err-clause-err

@@ -2,7 +2,7 @@ use Rattle.dns_master.proofs.Common.{rules, ◌≡◌, ◌+◌, ◌∷◌, ◌++
 use Rattle.dns_master.specs.EntryForm.{WholeBefore, rest_in}
 use Rattle.dns_master.specs.EntryFound.{shown_ending}
 use Rattle.dns_master.specs.EarlierForm.{handed}
-use Rattle.dns_master.specs.JudgeForm.{KindOwn}
+use Rattle.dns_master.specs.TakeForm.{KindOwn}
 use Rattle.dns_master.proofs.TextSteps.{same_sort, entry-means, entry-faulty, ends-faulty, entry-line, entry-shorter, whole-rest}
 use Rattle.dns_master.proofs.CappedWords.{all-stored, stored-mean}
 use Rattle.dns_master.proofs.PieceSteps.{end-faulty, entry-on, sure-given, taken-known}

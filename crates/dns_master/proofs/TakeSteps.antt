@@ -16,7 +16,7 @@ use Rattle.dns_master.proofs.Common.{if◌then◌else◌}
 use Rattle.dns_master.specs.declared.earlier.Earlier.{Earlier}
 use Rattle.dns_master.specs.declared.earlier.Blame.{Blame}
 use Rattle.dns_master.specs.declared.earlier.RecordFault.{RecordFault}
-use Rattle.dns_master.specs.JudgeForm.{BlamedWord, Blamed, KindOwn, NeverGives, FieldsGive, OwnedGives, FieldsDetail, FieldsBlamed, words_to, one_unless}
+use Rattle.dns_master.specs.TakeForm.{BlamedWord, Blamed, KindOwn, NeverGives, FieldsGive, OwnedGives, FieldsDetail, FieldsBlamed, words_to, one_unless}
 
 -- one of two cases, by a test
 by_test : {X Y C : Type 0} (b : Bool) → (X → C) → (Y → C) → MatchBool b X Y → C
