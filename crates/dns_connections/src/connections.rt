@@ -239,14 +239,14 @@ impl<'z, Z: Served, K: Sockets> Connections<'z, Z, K> {
     }
 
     // Whether a connection may wait that can be accepted now.
-    fn accepts(&self, now: Duration) -> bool {
+    fn can_accept(&self, now: Duration) -> bool {
         let has_place = self.plan.capacity == Capacity::Many || self.peers.is_empty();
         self.may_accept && self.left > 0 && has_place && now >= self.accepts
     }
 
     // How long the next wait may last.
     fn patience(&self, now: Duration) -> Option<Duration> {
-        if self.accepts(now) || !self.ready.is_empty() {
+        if self.can_accept(now) || !self.ready.is_empty() {
             return Some(Duration::from_millis(0));
         }
         let is_idle = self.peers.is_empty() && !self.may_accept && self.left > 0;
@@ -302,7 +302,7 @@ impl<'z, Z: Served, K: Sockets> Connections<'z, Z, K> {
     // counts too, and nothing is accepted for some time after it.
     fn accept_some(&mut self, now: Duration) {
         'accepts: for _ in 0..ACCEPTS {
-            if !self.accepts(now) {
+            if !self.can_accept(now) {
                 break;
             }
             match self.accept(now) {

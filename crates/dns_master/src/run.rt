@@ -48,7 +48,7 @@ impl RunKind {
                 }
             }
             // Strings may be long, so groups without escapes are skipped first.
-            RunKind::String => self.length_from(text, plain_groups(text)),
+            RunKind::String => self.length_from(text, plain_front(text)),
         }
     }
 
@@ -120,7 +120,7 @@ fn word_end(text: &[u8]) -> Option<usize>
 
 // The number of octets in the groups at the front of a text, up to the first group with an octet
 // that may not appear in a string unescaped. Octets after the last whole group are not counted.
-fn plain_groups(text: &[u8]) -> usize
+fn plain_front(text: &[u8]) -> usize
     ensures bound { result ≤ length text.now }
     ensures plain { list_all is_string_octet (take result text.now) ≡ true }
 {

@@ -18,7 +18,7 @@ pub fn are_equal(left: &[u8], right: &[u8]) -> bool
     if count < 8 || count > 16 {
         return are_others_equal(left, right);
     }
-    have_same_eights(left, right)
+    are_eights_equal(left, right)
 }
 
 /// Whether a run of octets begins with another run.
@@ -89,7 +89,7 @@ fn are_many_equal(left: &[u8], right: &[u8]) -> bool
         left_rest = left_rest.split_at(8).1;
         right_rest = right_rest.split_at(8).1;
     }
-    have_same_eights(left_rest, right_rest)
+    are_eights_equal(left_rest, right_rest)
 }
 
 // The first eight octets as a number; different octets give different numbers.
@@ -102,7 +102,7 @@ fn first_eight(octets: &[u8]) -> u64
 
 // Whether two runs of equally many octets, 8 to 16, are equal. Compares their first eight octets
 // and their last eight, which may overlap.
-fn have_same_eights(left: &[u8], right: &[u8]) -> bool
+fn are_eights_equal(left: &[u8], right: &[u8]) -> bool
     requires least { 8 ≤ length left.now }
     requires most { length left.now ≤ 16 }
     requires same { length right.now ≡ length left.now }

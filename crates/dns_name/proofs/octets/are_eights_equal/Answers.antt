@@ -1,6 +1,6 @@
 use Rattle.dns_name.proofs.Common.{arith, from_le_bytes, w64}
 use Rattle.dns_name.proofs.OctetRuns.{ends_tell, eight_tell}
-use Rattle.dns_name.proofs.octets.have_same_eights.Goals as goal
+use Rattle.dns_name.proofs.octets.are_eights_equal.Goals as goal
 
 pub returns-then-first_eight : goal.returns-then-first_eight
 returns-then-first_eight c =

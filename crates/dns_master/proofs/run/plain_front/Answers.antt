@@ -1,5 +1,5 @@
 use Rattle.dns_master.proofs.Common.{rules, ◌≡◌, ◌+◌, ◌≤◌, ◌&&◌, true, take, drop, length, ap, ap₂, sym, ◌∙◌, arith, length-drop, take-add, drop-drop, list_all-append, list_all, is_string_octet}
-use Rattle.dns_master.proofs.run.plain_groups.Goals as goal
+use Rattle.dns_master.proofs.run.plain_front.Goals as goal
 
 pub groups-preserved : goal.groups-preserved
 groups-preserved c =

@@ -1,5 +1,5 @@
 use Rattle.dns_master.proofs.Common.{◌≡◌, ◌≤◌, true, take, drop, length, list_all, is_string_octet}
-use Rattle.dns_master.proofs.run.plain_groups.Given as goal
+use Rattle.dns_master.proofs.run.plain_front.Given as goal
 
 -- all octets of the groups so far may appear in a string unescaped
 abbrev pub invariant-groups : goal.invariant-groups
