@@ -28,7 +28,8 @@ entry_read total text = read_entry (length text) false (total - length text) tex
 abbrev pub entry_at : ℕ → Octets → Octets → PlacedEntry
 entry_at total past text = placed_entry total past text (entry_read total text)
 
--- an entry was read
+-- The entry that begins `rest` was read: its words, and how reading it ends. `rest` is the end of
+-- the examined octets of the file.
 pub record EntryScanned (s : ScannedEntry) : Type 0 where
   pub words_are : words_read (entry_read (length s.octets.now) s.rest.now).0 ≡ s.words.now
   pub ending_is : (entry_read (length s.octets.now) s.rest.now).1 ≡ shown_ending s.read.ending

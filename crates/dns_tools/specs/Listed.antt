@@ -21,7 +21,7 @@ ListedAs known left o =
     ReportedAs (λ report. (text : Octets) × ReadsOctets known left text
     × ListsFaults o text report)
 
--- why a run stops if octets are not read
+-- why a run stops if reading octets fails with this code: the source failed, or an allocation did
 abbrev pub stop_of_code : ReadCode → Stop
 stop_of_code SourceFailed = Source
 stop_of_code code = Memory

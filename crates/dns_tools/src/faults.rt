@@ -91,7 +91,7 @@ fn list_zone<W: Write>(alloc: Global, origin: &Name, store: Store, sink: &mut Ta
     Ok(zone.found.is_empty())
 }
 
-// Lists the faults of the text of a file.
+// Lists the faults of a file, whose text this is: those of its entries, and those of its zone.
 fn list_file<W: Write>(alloc: Global, origin: &Name, text: &[u8], sink: &mut Tally<W>) -> Outcome
     requires { sink.old.failures < 2 ^ 64 - 1 }
     ensures report { ReportedAs (ListsFaults origin.now text.now) result

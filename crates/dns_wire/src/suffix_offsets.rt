@@ -13,8 +13,8 @@ use std::marker::Model;
 // Whatever the hash, a chain contains suffixes of only four lengths, 64 octets apart, since six of
 // the seven bits that choose the chain are bits of the length. So it contains at most one suffix
 // for each 64 octets of a name, rounded up: at most 256 in the 16,384 octets that a pointer
-// reaches, plus one for each name there. A reply has about 82 names, so a suffix is compared by its
-// octets with at most about 82 suffixes of its length.
+// reaches, plus one for each name there. A reply has at most 82 names, so a suffix is compared by
+// its octets with at most 82 suffixes of its length.
 const HEADS: usize = 128;
 
 // The offset of a suffix; in `next`, the index, counted from 1, of the previous entry of the same

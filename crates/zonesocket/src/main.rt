@@ -47,6 +47,8 @@ where
     }
 }
 
+// Says on standard output that the zone is served, and serves it at the given socket, with any
+// number of messages on a connection. The exit status says whether each diagnostic was written.
 fn serve<R, I: AsFd, O: AsRawFd>(
     rt: &R,
     given: &I,

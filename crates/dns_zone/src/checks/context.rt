@@ -119,8 +119,10 @@ impl<'a> CheckContext<'a> {
         (&[], is_covered(one.cut, one.key, key))
     }
 
-    /// Whether the record's target is in the zone and owns a CNAME (RFC 2181 10.3), and whether it
-    /// is in the zone and lacks an address (RFC 1034 4.2.1). The target is looked up once.
+    /// Whether the record's target is in the zone and owns a CNAME (RFC 2181 10.3), and whether the
+    /// zone lacks an address of it that it has to contain (RFC 1034 4.2.1). It has to contain one
+    /// if the target is at or below the origin, and at or below no cut but perhaps the owner. The
+    /// target is looked up once.
     pub(crate) fn target_faults(
         &self,
         entry: &StoredRecord,

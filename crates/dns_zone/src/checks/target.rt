@@ -10,8 +10,8 @@ use dns_name::{Name, NameRef};
 use dns_rdata::Rdata;
 use std::marker::Model;
 
-/// The first name in the data: the server of NS, the exchange of MX (RFC 1035 3.3.9, 3.3.11), the
-/// target of CNAME or SRV. `None` if the data contains no name.
+/// The first name in the data, for example the server of NS (RFC 1035 3.3.11), the exchange of MX
+/// (3.3.9), or the target of CNAME or SRV. `None` if the data contains no name.
 #[tactic(auto, using(crate::proofs::Targets::target_if))]
 pub(crate) fn target(entry: &StoredRecord) -> Option<NameRef<'_>>
     ensures value { result ≡ target entry.now.rtype entry.now.rdata }

@@ -55,8 +55,9 @@ impl Key {
         key
     }
 
-    /// Changes the key of `from` to the key of `name`. The labels that both share are not written
-    /// again, if at most three others come before them, as in most names.
+    /// Changes the key of `from` to the key of `name`. The labels that both share, except the first
+    /// label of `name`, are not written again if at most three labels come before them, as in most
+    /// names.
     pub(crate) fn move_to(&mut self, from: &NameRef<'_>, name: &NameRef<'_>)
         requires { self.old ≡ name_key from.now }
         ensures { self.new ≡ name_key name.now }
