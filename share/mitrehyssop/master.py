@@ -249,8 +249,9 @@ class Reader:
     """Reads the entries of a zone in order, and keeps what a later entry can inherit: `origin`, `owner` and TTLs.
 
     `at` is the next line, `begun` the line of the last entry, `default` the TTL of the last $TTL, and `stated` the last
-    TTL that a record stated. `pieces` is how many pieces of entries were read that are not plain lines. `lost`: whether
-    an owner is not a name. If `wanted` has owners, plain lines of others are left out.
+    TTL that a record stated. `pieces` is how many pieces of entries were read that are not plain lines. `lost`, which
+    faults.py sets: whether an owner was not a name, so that later entries may lack one. If `wanted` has owners, plain
+    lines of others are left out.
     """
 
     def __init__(self, zone, wanted=()):
@@ -355,7 +356,9 @@ class Names:
         return self.at(full, "CNAME")
 
     def aliased(self, full, before=(), most=None):
-        """The name to which a chain of aliases leads, and the names before it: at most `most`, `before` included."""
+        """The name to which a chain of aliases leads, and the names passed on the way, `before` first.
+
+        The chain ends at a name that is no alias or was passed already, or once `most` names were passed."""
         names = list(before)
         while full not in names and len(names) != most and (alias := self.alias(full)):
             names.append(full)
