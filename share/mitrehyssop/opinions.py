@@ -1,4 +1,4 @@
-"""What a name server refuses in a zone file besides: as its manual says, and as its own checker says if it is installed."""
+"""What a name server refuses in lines that have no other fault: by its manual, and by its own checker if it is installed."""
 import os
 import re
 import shutil

@@ -9,7 +9,7 @@ from master import Names, above, address, dns_name, octets, twice, unique, withi
 
 HOST = re.compile(r"(?:\*\.)?(?:[a-z0-9](?:[a-z0-9-]*[a-z0-9])?\.)+|(?:.*\.)?gc\._msdcs\..*")
 FOUR = re.compile(r"\d+\.\d+\.\d+\.\d+\.")
-# The names of hosts and services, as most are, of which no warning can be.
+# Names of the usual form of hosts. None of them can have a warning about its form.
 USUAL = re.compile(r"(?!\d+\.\d+\.\d+\.\d+\.)(?:[a-z0-9](?:[a-z0-9-]*[a-z0-9])?\.)+")
 # Names below in-addr.arpa and ip6.arpa, except those whose labels have other signs, as for delegations; and names of
 # addresses.
