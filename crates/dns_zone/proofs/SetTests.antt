@@ -148,11 +148,6 @@ in_runs k (r ∷ rs) =
     go (q ∷ qs) d h = ap₂ ◌||◌ (eqb_turned r.rtype q.rtype)
         (ap (λ xs. list_any same_type (zip rs xs)) (sym d) ∙ h)
 
--- if there are at most k records, no two are k positions apart
-pub few_in_runs : (k : ℕ) (rs : List ResourceRecord) → length rs ≤ k
-    → list_any same_type (zip rs (drop k rs)) ≡ false
-few_in_runs k rs few = ap (λ xs. list_any same_type (zip rs xs)) (drop_all k rs few) ∙ no_pairs rs
-
 pub large-in_runs : (k : ℕ) (rs : List ResourceRecord) → Pairs TypeUpTo rs
     → list_any same_type (zip rs (drop (suc k) rs)) ≡ list_any (is_large k rs) rs
 large-in_runs k rs h = in_runs k rs ∙ sym (large-walk k rs h)

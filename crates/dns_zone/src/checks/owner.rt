@@ -72,19 +72,19 @@ impl<'a> Owner<'a> {
     {
         let targets = self.target_faults(last);
         [
-            self.is_apex && !self.owns_soa(),
-            self.is_apex && self.count_soa() > 1,
-            !self.is_apex && self.owns_soa(),
-            self.is_apex && !self.owns_ns(),
+            self.is_apex && !self.owns(RType::SOA),
+            self.is_apex && self.count(RType::SOA) > 1,
+            !self.is_apex && self.owns(RType::SOA),
+            self.is_apex && !self.owns(RType::NS),
             !self.own.is_empty() && !is_under(self.key, self.context.key()),
-            self.owns_cname() && self.owns_other_than_cname(),
-            self.count_cname() > 1,
+            self.owns(RType::CNAME) && self.owns_other_than_cname(),
+            self.count(RType::CNAME) > 1,
             self.has_other_ttls(),
             targets.ns_alias,
             targets.ns_lost,
             targets.exchange_alias,
             self.has_data_at_cut(),
-            self.name.is_wildcard() && self.owns_ns(),
+            self.name.is_wildcard() && self.owns(RType::NS),
             self.has_large_set(),
             self.has_many_sets(),
         ]
@@ -177,40 +177,24 @@ impl<'a> Owner<'a> {
         have_many_sets(self.own)
     }
 
-    fn count_soa(&self) -> usize
-        ensures { result ≡ count self.now.zone self.now.name type_soa }
+    // The number of records of the type that the name owns.
+    fn count(&self, rtype: RType) -> usize
+        ensures { result ≡ count self.now.zone self.now.name rtype.0 }
     {
-        of_type(self.own, RType::SOA).len()
+        of_type(self.own, rtype).len()
     }
 
-    fn count_cname(&self) -> usize
-        ensures { result ≡ count self.now.zone self.now.name type_cname }
+    // Whether the name owns a record of the type.
+    fn owns(&self, rtype: RType) -> bool
+        ensures { result ≡ owns self.now.zone self.now.name rtype.0 }
     {
-        of_type(self.own, RType::CNAME).len()
-    }
-
-    fn owns_soa(&self) -> bool
-        ensures { result ≡ owns self.now.zone self.now.name type_soa }
-    {
-        has_type(self.own, RType::SOA)
-    }
-
-    fn owns_ns(&self) -> bool
-        ensures { result ≡ owns self.now.zone self.now.name type_ns }
-    {
-        has_type(self.own, RType::NS)
-    }
-
-    fn owns_cname(&self) -> bool
-        ensures { result ≡ owns self.now.zone self.now.name type_cname }
-    {
-        has_type(self.own, RType::CNAME)
+        has_type(self.own, rtype)
     }
 
     fn is_cut(&self) -> bool
         ensures { result ≡ is_cut self.now.zone self.now.name }
     {
-        self.owns_ns() && is_below(self.key, self.context.key())
+        self.owns(RType::NS) && is_below(self.key, self.context.key())
     }
 
     fn owns_other_than_cname(&self) -> bool
@@ -272,9 +256,6 @@ fn have_other_ttls(own: &[StoredRecord]) -> bool
 fn have_large_set(own: &[StoredRecord]) -> bool
     ensures { result ≡ list_any (λ p. p.0.rtype == p.1.rtype) (zip own.now (drop 64 own.now)) }
 {
-    if own.len() <= MOST_OF_A_SET {
-        return false;
-    }
     own.iter()
         .zip(own.iter().skip(MOST_OF_A_SET))
         .any(|(one, other)| one.rtype == other.rtype)
