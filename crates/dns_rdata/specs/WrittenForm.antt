@@ -11,10 +11,10 @@ abbrev pub spaced : Octets → List Word → Octets
 spaced before [] = []
 spaced before (w ∷ ws) = before ++ (word_text w ++ spaced (32 ∷ []) ws)
 
--- `before` and the word of the field with which `octets` begins were appended to the text `old`,
--- and `left` are the octets after the field
-pub record PutsWord (f : Field) (before octets old new left : Octets) : Type 0 where
-  pub text : new ≡ old ++ (before ++ word_text (word_front f octets).0)
+-- the word of the field with which `octets` begins was appended to the text `old`, and `left` are
+-- the octets after the field
+pub record PutsWord (f : Field) (octets old new left : Octets) : Type 0 where
+  pub text : new ≡ old ++ word_text (word_front f octets).0
   pub rest : left ≡ (word_front f octets).1
 
 -- a field that has one word, whatever the data

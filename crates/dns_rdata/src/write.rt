@@ -79,34 +79,28 @@ impl Rdata {
         let mut rest = octets;
         'fields: for field in row.fields {
             text.reserve(STRING_ROOM, sink)?;
-            rest = append_field(*field, before, rest, text);
+            text.append(before);
+            rest = append_field(*field, rest, text);
             before = SPACE;
         }
         Ok(())
     }
 }
 
-// Appends `before`, and then the word of the field with which `octets` begins. Returns the octets
-// after the field.
-fn append_field<'a>(
-    field: Field,
-    before: &[u8],
-    octets: &'a [u8],
-    text: &mut TextBuffer,
-) -> &'a [u8]
+// Appends the word of the field with which `octets` begins. Returns the octets after the field.
+fn append_field<'a>(field: Field, octets: &'a [u8], text: &mut TextBuffer) -> &'a [u8]
     requires there { IsTrue (is_some (field_front (field_of field) octets.now)) }
     requires one { IsTrue (has_one_word (field_of field)) }
-    requires short { length before.now ≤ 1 }
-    requires room { length text.old + 1023 ≤ 4096 }
-    ensures { PutsWord (field_of field) before.now octets.now text.old text.new result.now }
+    requires room { length text.old + 1022 ≤ 4096 }
+    ensures { PutsWord (field_of field) octets.now text.old text.new result.now }
 {
     match field {
-        Field::U16 => append_u16(before, octets, text),
-        Field::U32 => append_u32(before, octets, text),
-        Field::Ipv4 => append_ipv4(before, octets, text),
-        Field::Ipv6 => append_ipv6(before, octets, text),
-        Field::Domain => append_name(before, octets, text),
-        Field::String => append_string(before, octets, text),
+        Field::U16 => append_number(2, octets, text),
+        Field::U32 => append_number(4, octets, text),
+        Field::Ipv4 => append_ipv4(octets, text),
+        Field::Ipv6 => append_ipv6(octets, text),
+        Field::Domain => append_name(octets, text),
+        Field::String => append_string(octets, text),
         Field::Strings | Field::Anything => unreachable!(),
     }
 }
@@ -126,7 +120,8 @@ fn put_strings<W: Write>(
     let mut rest = octets;
     'strings: while !rest.is_empty() {
         text.reserve(STRING_ROOM, sink)?;
-        rest = append_string(before, rest, text);
+        text.append(before);
+        rest = append_string(rest, text);
         before = SPACE;
     }
     Ok(())
@@ -169,89 +164,69 @@ fn append_hex_text(octets: &[u8], text: &mut TextBuffer)
     }
 }
 
-fn append_name<'a>(before: &[u8], octets: &'a [u8], text: &mut TextBuffer) -> &'a [u8]
+fn append_name<'a>(octets: &'a [u8], text: &mut TextBuffer) -> &'a [u8]
     requires name { IsTrue (is_some (name_of octets.now)) }
-    requires short { length before.now ≤ 1 }
-    requires room { length text.old + 1021 ≤ 4096 }
-    ensures { PutsWord domain before.now octets.now text.old text.new result.now }
+    requires room { length text.old + 1020 ≤ 4096 }
+    ensures { PutsWord domain octets.now text.old text.new result.now }
 {
     let Some((Part::Name(name), rest)) = first_name(octets) else {
         unreachable!();
     };
-    text.append(before);
     NameRef::new(name).append_text(text);
     rest
 }
 
-// Appends `before`, and then in decimal the big-endian number with which `octets` begins (RFC 1035
+// Appends in decimal the big-endian number of `count` octets with which `octets` begins (RFC 1035
 // 2.3.2). Returns the octets after the number.
-fn append_u16<'a>(before: &[u8], octets: &'a [u8], text: &mut TextBuffer) -> &'a [u8]
-    requires long { 2 ≤ length octets.now }
-    requires short { length before.now ≤ 1 }
-    requires room { length text.old + 11 ≤ 4096 }
-    ensures { PutsWord (number 2) before.now octets.now text.old text.new result.now }
+#[tactic(auto, using(crate::proofs::BigNumbers::big_number_is))]
+fn append_number<'a>(count: usize, octets: &'a [u8], text: &mut TextBuffer) -> &'a [u8]
+    requires low { 1 ≤ count }
+    requires high { count ≤ 4 }
+    requires long { count ≤ length octets.now }
+    requires room { length text.old + 20 ≤ 4096 }
+    ensures { PutsWord (number count) octets.now text.old text.new result.now }
 {
-    let (number, rest) = octets.split_at(2);
-    let number = BigEndian::read_u16(number);
-    text.append(before);
+    let (number, rest) = octets.split_at(count);
+    let number = BigEndian::read_uint(number, count);
     text.append(Buffer::new().format(number).as_bytes());
     rest
 }
 
-fn append_u32<'a>(before: &[u8], octets: &'a [u8], text: &mut TextBuffer) -> &'a [u8]
+fn append_ipv4<'a>(octets: &'a [u8], text: &mut TextBuffer) -> &'a [u8]
     requires long { 4 ≤ length octets.now }
-    requires short { length before.now ≤ 1 }
-    requires room { length text.old + 11 ≤ 4096 }
-    ensures { PutsWord (number 4) before.now octets.now text.old text.new result.now }
-{
-    let (number, rest) = octets.split_at(4);
-    let number = BigEndian::read_u32(number);
-    text.append(before);
-    text.append(Buffer::new().format(number).as_bytes());
-    rest
-}
-
-fn append_ipv4<'a>(before: &[u8], octets: &'a [u8], text: &mut TextBuffer) -> &'a [u8]
-    requires long { 4 ≤ length octets.now }
-    requires short { length before.now ≤ 1 }
-    requires room { length text.old + 16 ≤ 4096 }
-    ensures { PutsWord ipv4 before.now octets.now text.old text.new result.now }
+    requires room { length text.old + 15 ≤ 4096 }
+    ensures { PutsWord ipv4 octets.now text.old text.new result.now }
 {
     let Some((address, rest)) = octets.split_first_chunk::<4>() else {
         unreachable!();
     };
-    text.append(before);
     text.append(text_of_ipv4(address).as_slice());
     rest
 }
 
-fn append_ipv6<'a>(before: &[u8], octets: &'a [u8], text: &mut TextBuffer) -> &'a [u8]
+fn append_ipv6<'a>(octets: &'a [u8], text: &mut TextBuffer) -> &'a [u8]
     requires long { 16 ≤ length octets.now }
-    requires short { length before.now ≤ 1 }
-    requires room { length text.old + 40 ≤ 4096 }
-    ensures { PutsWord ipv6 before.now octets.now text.old text.new result.now }
+    requires room { length text.old + 39 ≤ 4096 }
+    ensures { PutsWord ipv6 octets.now text.old text.new result.now }
 {
     let Some((address, rest)) = octets.split_first_chunk::<16>() else {
         unreachable!();
     };
-    text.append(before);
     text.append(text_of_ipv6(address).as_slice());
     rest
 }
 
-// Appends `before`, and then in quotation marks the character-string with which `octets` begins,
-// without its length (RFC 1035 3.3). Returns the octets after the string.
-fn append_string<'a>(before: &[u8], octets: &'a [u8], text: &mut TextBuffer) -> &'a [u8]
+// Appends in quotation marks the character-string with which `octets` begins, without its length
+// (RFC 1035 3.3). Returns the octets after the string.
+fn append_string<'a>(octets: &'a [u8], text: &mut TextBuffer) -> &'a [u8]
     requires string { IsTrue (is_some (string_front octets.now)) }
-    requires short { length before.now ≤ 1 }
-    requires room { length text.old + 1023 ≤ 4096 }
-    ensures { PutsWord string before.now octets.now text.old text.new result.now }
+    requires room { length text.old + 1022 ≤ 4096 }
+    ensures { PutsWord string octets.now text.old text.new result.now }
 {
     let Some((length, others)) = octets.split_first() else {
         unreachable!();
     };
     let (string, rest) = others.split_at(usize::from(*length));
-    text.append(before);
     append_string_text(string, text);
     rest
 }

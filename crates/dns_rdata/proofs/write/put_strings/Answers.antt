@@ -1,4 +1,4 @@
-use Rattle.dns_rdata.proofs.Common.{rules, ap, sym, ◌∙◌, arith, eqb-false, are_strings, OnErr-always, held_more, held_less, held_begun}
+use Rattle.dns_rdata.proofs.Common.{append_assoc, rules, ap, sym, ◌∙◌, arith, eqb-false, are_strings, OnErr-always, held_more, held_less, held_begun}
 use Rattle.dns_rdata.proofs.SpacedWords.{string_begins, more_strings, spaced-strings}
 use Rattle.dns_rdata.proofs.write.put_strings.Goals as goal
 
@@ -22,6 +22,12 @@ strings-preserved g c =
       all = ap (are_strings 0) c.append_string-rest.ensures.rest
           ∙ more_strings _ c.strings.invariant.all some;
       short = search rules;
-      fills = grind (arith, held_more, spaced-strings);
+      fills = rw (
+        c.append_string-rest.ensures.rest,
+        c.append_string-rest.ensures.text,
+        c.append.ensures,
+        append_assoc c.reserve.new.self c.strings.before.now,
+      )
+          (held_more _ _ _ _ _ _ _ held (spaced-strings _ _ c.strings.invariant.all some));
       counted = search rules;
     }

@@ -1,4 +1,4 @@
-use Rattle.dns_rdata.proofs.Common.{rules, arith, sym, ap, ◌∙◌, ◌++◌, OnErr-always, Fills-same, held_more, held_less, held_begun}
+use Rattle.dns_rdata.proofs.Common.{append_assoc, rules, arith, sym, ap, ◌∙◌, ◌++◌, OnErr-always, Fills-same, held_more, held_less, held_begun}
 use Rattle.dns_rdata.proofs.WrittenFields.{row_text, row_counted, row_strings, strings_text, other_text, there-at, one-at, more-at, counted-after, spaced-at}
 use Rattle.dns_rdata.proofs.rdata.Rdata.put_text.Goals as goal
 
@@ -44,7 +44,12 @@ fields-preserved g c =
           (more-at _ _ _ c.fields-test.true _ counted c.fields.invariant.cut);
       counted_fields = counted-after _ _ c.fields-test.true counted;
       short = search rules;
-      fills = rw (c.append_field-rest.ensures.rest, c.append_field-rest.ensures.text)
+      fills = rw (
+        c.append_field-rest.ensures.rest,
+        c.append_field-rest.ensures.text,
+        c.append.ensures,
+        append_assoc c.reserve.new.self c.fields.before.now,
+      )
           (held_more _ _ _ _ _ _ _ held (spaced-at _ _ _ c.fields-test.true _ _));
       counted = search rules;
     }
