@@ -51,8 +51,7 @@ pub record Taken (fs left : List Field) (origin : DomainName) (ws rest : List Wo
 -- the items from index i on are the one there and those after it
 pub item-front : {X : Type 0} (xs : List X) (i : ℕ) (x : X) → i < length xs
     → x ≡ get_or xs i x → drop i xs ≡ x ∷ drop (i + 1) xs
-item-front xs i x inside is = drop-cons xs i x inside
-    ∙ ap (λ y. y ∷ drop (suc i) xs) (sym is) ∙ ap (λ k. x ∷ drop k xs) (suc-eq-add-one i)
+item-front xs i x inside is = grind (arith, drop-cons)
 
 -- the fields from index i on are the field f and those after it
 next_field : (fs : List Field) (i : ℕ) (f : Field)
@@ -79,14 +78,12 @@ module _ (fs : List Field) (origin : DomainName) (ws : List Word) where
   pub word-next : (i : ℕ) (f : Field) (w : Word) (mid rest : List Word) (x : Octets)
       → slice_get fs i ≡ Some f → mid ≡ w ∷ rest → Taken fs (drop i fs) origin ws mid x
       → Taken fs (f ∷ drop (i + 1) fs) origin ws (w ∷ rest) x
-  word-next i f w mid rest x at is t = subst₂ (λ left rest. Taken fs left origin ws rest x)
-      (next_field fs i f at ∙ ap (λ k. f ∷ drop k fs) (suc-eq-add-one i)) is t
+  word-next i f w mid rest x at is t = grind (arith, next_field)
 
   -- as many words were taken as the index of the next field
   pub taken_is : (i : ℕ) (f : Field) (w : Word) (rest : List Word) (x : Octets)
       (t : Taken fs (f ∷ drop (i + 1) fs) origin ws (w ∷ rest) x) → i < length fs → t.taken ≡ i
-  taken_is i f w rest x t within =
-      let left = length-drop (i + 1) fs in omega (arith, left, t.count, t.passed, within)
+  taken_is i f w rest x t within = omega (arith, length-drop (i + 1) fs)
 
   module _ (f : Field) (left : List Field) (w : Word) (rest : List Word) (x : Octets)
       (t : Taken fs (f ∷ left) origin ws (w ∷ rest) x) where

@@ -204,8 +204,7 @@ whole_word word gs r gap e f =
     (sym (all_said gs (groups_said word) e)) ∙ sym (by_gap word None gap)
 
 too_long : (front back : List ℕ) → 8 ≤ length front + length back → filled_groups front back ≡ None
-too_long front back long =
-    let test : nat_lt (length front + length back) 8 ≡ false = le-ltb _ _ long in rw test refl
+too_long front back long = grind arith
 
 pub refused_front : (word front back : Octets) → around_gap word ≡ Some (front, back)
     → None ≡ option_and_then few_groups (groups_said front) → ipv6_octets word ≡ None
@@ -279,9 +278,7 @@ length-ipv6 text d h =
     octets_said : (o : Option (List ℕ)) → option_map (flat_map (bytes_high_first 2)) o ≡ Some d
         → ((gs : List ℕ) → o ≡ Some gs → length gs ≡ 8) → length d ≡ 16
     octets_said None e long = absurd (none-some d e)
-    octets_said (Some gs) e long =
-        ap length (sym (same_Some _ d e))
-        ∙ ap (λ l. length (flat_map (bytes_high_first 2) l)) (eight gs (long gs refl))
+    octets_said (Some gs) e long = cc (eight gs (long gs refl))
 
     eight_said : (gs hs : List ℕ) → eight_groups gs ≡ Some hs → length hs ≡ 8
     eight_said gs hs e = grind (arith, cond_some, eqb-true)
@@ -291,8 +288,7 @@ length-ipv6 text d h =
 
     groups_eight : (text : Octets) (gap : Option (Octets × Octets)) (hs : List ℕ)
         → groups_by text gap ≡ Some hs → length hs ≡ 8
-    groups_eight text None hs e =
-        option_and_then_some eight_groups (groups_said text) hs e (λ gs said. eight_said gs hs)
+    groups_eight text None hs e = grind (arith, eight_said)
     groups_eight text (Some r) hs e =
         option_and_then_some (λ front. option_and_then (filled_groups front) (groups_said r.1))
         (groups_said r.0) hs e (λ front said f. option_and_then_some

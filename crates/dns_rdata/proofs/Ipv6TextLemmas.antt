@@ -14,8 +14,7 @@ one_group_at gs i inside = grind (arith, suc-eq-add-one, drop-cons)
 
 pub push_one : (old new : Octets) (r n : ℕ)
     → new ≡ old ++ r ∷ [] → r ≡ digit_char n → n < 16 → new ≡ old ++ digits 16 false n
-push_one old new r n e f small =
-    e ∙ ap (λ d. old ++ d ∷ []) f ∙ ap (λ t. old ++ t) (sym (one_digit n small))
+push_one old new r n e f small = grind (arith, one_digit)
 
 pub push_two : (old mid new : Octets) (r s n : ℕ)
     → mid ≡ old ++ r ∷ [] → new ≡ mid ++ s ∷ [] → r ≡ digit_char (n / 16)

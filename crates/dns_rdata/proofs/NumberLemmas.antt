@@ -58,8 +58,7 @@ says_digits text n small e =
 -- an empty text spells no number
 pub no_text : (text : Octets) (most : ℕ)
     → most < 2 ^ 32 → length text ≡ 0 → (n : ℕ) → text ≡ decimal n → n ≤ most → ⊥
-no_text text most small empty n e le =
-    let said = says_digits text n (omega arith) e in omega (arith, said.2)
+no_text text most small empty n e le = omega (arith, says_digits text n (omega arith) e)
 
 zero_text : decimal 0 ≡ 48 ∷ []
 unfolding digits
@@ -77,8 +76,7 @@ no_digits text most small refuted n e le = grind (arith, says_digits)
 
 pub greater : (text : Octets) (most : ℕ)
     → most < 2 ^ 32 → most < digits_value 10 text → (n : ℕ) → text ≡ decimal n → n ≤ most → ⊥
-greater text most small over n e le =
-    let said = says_digits text n (omega arith) e in omega (arith, said.1)
+greater text most small over n e le = omega (arith, says_digits text n (omega arith) e)
 
 -- digits without a leading zero spell only their value
 pub SaysIff-some : (text : Octets) (most k : ℕ) (r : Option ℕ)

@@ -45,5 +45,4 @@ one_lowered old new x whole before after are e grown = grind (arith, flat_map-co
 
 pub all_lowered : (ps : List Data.Part) (whole before : Octets)
     → map with_octets ps ≡ [] → whole ≡ before ++ joined (map part_folded ps) → before ≡ whole
-all_lowered ps whole before none e = sym
-    (e ∙ ap (λ qs. before ++ joined (map part_folded qs)) (none_left ps none) ∙ append-nil before)
+all_lowered ps whole before none e = grind (arith, none_left, append-nil)

@@ -39,9 +39,4 @@ pub spaced-strings : (before d : Octets) → are_strings 0 d ≡ true → (lengt
     ≡ (before ++ word_text (word_front string d).0) ++ spaced space (field_words
     (replicate (string_count 0 (word_front string d).1) strings) (word_front string d).1)
 spaced-strings before [] h some = absurd (some refl)
-spaced-strings before (k ∷ d) h some =
-    let word = word_text (word_front string (k ∷ d)).0 in
-    ap (λ n. spaced before (field_words (replicate n strings) (k ∷ d)))
-    (one_more (string_count k d)) ∙ sym (append_assoc before word _)
-    ∙ ap (λ n. (before ++ word) ++ spaced space (field_words (replicate n strings) (drop k d)))
-    (count_after k d (string_there k d h))
+spaced-strings before (k ∷ d) h some = grind (arith, append_assoc, count_after, string_there)

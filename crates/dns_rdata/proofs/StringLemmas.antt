@@ -11,8 +11,7 @@ StringOctetThen text x others =
 spelled_read : (text : Octets) (x : ℕ) (others : Octets)
     → StringOctetThen text x others → octet_at text ≡ Some (x, others)
 unfolding octet_at
-spelled_read text x others (first, e, inl spelled) =
-    octet_at-OctetThen text x others (first, e, spelled)
+spelled_read text x others (first, e, inl spelled) = search octet_at-OctetThen
 spelled_read text x others (first, e, inr (dot, is_dot)) = grind arith
 
 read_spelled : (text : Octets) (x : ℕ) (others : Octets)
@@ -119,8 +118,7 @@ octet_at-shorter text x others e = grind (arith, read_spelled, length-append)
 plain_read : (text read rest : Octets) → StringSoFar text read rest
     → list_any (λ (o : ℕ). o == 92) rest ≡ false → StringSoFar text (read ++ rest) []
 unfolding octet_at
-plain_read text read [] so_far none =
-    subst (λ r. StringSoFar text r []) (sym (append-nil read)) so_far
+plain_read text read [] so_far none = grind (arith, append-nil)
 plain_read text read (a ∷ rest) so_far none = elim (cases_Bool (a == 92)) [
   | inl is ↦ absurd (false≢true (sym none ∙ ap (λ b. b || list_any (λ (o : ℕ). o == 92) rest) is))
   | inr other ↦

@@ -6,9 +6,7 @@ digits_unlowered : (cs ds : Octets) → map to_ascii_lowercase cs ≡ ds → All
 digits_unlowered [] [] e h = refl
 digits_unlowered [] (d ∷ ds) e h = cc
 digits_unlowered (c ∷ cs) [] e h = cc
-digits_unlowered (c ∷ cs) (d ∷ ds) e h =
-    let rest = digits_unlowered cs ds (ap (drop 1) e) h.1 in
-    grind (arith, digit_from_value, false≢true, lt-ltb, rest)
+digits_unlowered (c ∷ cs) (d ∷ ds) e h = grind (arith, digits_unlowered cs ds (ap (drop 1) e) h.1)
 
 -- the digits after `TYPE` are the digits of its number
 pub type_digits : (word digits : Octets) (t : ℕ) → drop 4 word ≡ digits → t < 65536

@@ -81,8 +81,7 @@ many_strings (suc m) origin (w ∷ ws) d e (front, back, low, is, kept_is, word,
 
 all_strings_front : (d : Octets)
     → are_strings 0 d ≡ true → 1 ≤ length d → strings_front d ≡ Some (octets d, [])
-all_strings_front d ok some =
-    rw (ne_eqb (length d) 0 (λ none. absurd (omega (arith, some, none))), ok) refl
+all_strings_front d ok some = grind arith
 
 strings_said : (k : ℕ) (origin : DomainName) (ws : List Word) (d e : Octets)
     → SaysKept (replicate (max 1 k) strings) origin ws d e → CutInto (strings ∷ []) d e
@@ -107,10 +106,7 @@ row_said t k row origin ws d e is h =
         → CutInto row.fields d e
     by_cases (inl counted) = fields_said origin row.fields ws d e counted
         (subst (λ fs. SaysKept fs origin ws d e) (words_counted k row.fields counted) h)
-    by_cases (inr alone) =
-        let fields = only_strings row.fields alone in
-        subst (λ fs. CutInto fs d e) (sym fields) (strings_said k origin ws d e
-        (subst (λ fs. SaysKept (word_fields k fs) origin ws d e) fields h))
+    by_cases (inr alone) = grind (arith, strings_said)
 
 -- what words spell by a row of the table
 abbrev TypedBy : Option TypeRow → DomainName → List Word → Octets → Type 0
@@ -146,8 +142,7 @@ module _ (t : ℕ) (row : TypeRow) (origin : DomainName) (ws : List Word) (count
     (plain : is_marked ws ≡ false) (is : Some row ≡ row_of t) (counted : count ≡ length ws) where
   pub typed_fault : (k : ℕ) → true ≡ (length (word_fields count row.fields) == count)
       → FieldsFaultIs (word_fields count row.fields) origin 0 ws k → DataFaultIs t ws origin k
-  typed_fault k many fault =
-      fault_typed t origin ws k plain (rw (sym is) (rw (sym counted) (rw (sym many) fault)))
+  typed_fault k many fault = grind arith
 
   typed_at : (i : ℕ) → true ≡ (length (word_fields count row.fields) == count)
       → FaultyField (word_fields count row.fields) origin 0 ws i → FaultyData t ws origin (i + 1)
@@ -164,8 +159,7 @@ module _ (t : ℕ) (row : TypeRow) (origin : DomainName) (ws : List Word) (count
       → true ≡ (length (word_fields count row.fields) == count) → i ≡ index
       → FaultyField (word_fields count row.fields) origin 0 ws (i + 0)
       → FaultyData t ws origin (index + 1)
-  typed_at_place i index many is_place fault =
-      subst (FaultyData t ws origin) (omega (arith, is_place)) (typed_at (i + 0) many fault)
+  typed_at_place i index many is_place fault = grind arith
 
   -- all words were taken
   module _ (e : Octets) (a : Taken (word_fields count row.fields) [] origin ws [] e) where

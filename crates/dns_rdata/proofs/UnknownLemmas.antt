@@ -27,8 +27,7 @@ WordsSoFar-more ws rest w old new so_far (d, said, e) =
 pub WordsSoFar-at : (ws : List Word) (i : ℕ) (w : Word) (octets : Octets) → i < length ws
     → w ≡ get_or ws i w → WordsSoFar ws (drop i ws) octets
     → WordsSoFar ws (w ∷ drop (i + 1) ws) octets
-WordsSoFar-at ws i w octets inside is so_far =
-    subst (λ rest. WordsSoFar ws rest octets) (item-front ws i w inside is) so_far
+WordsSoFar-at ws i w octets inside is so_far = grind (arith, item-front)
 
 pub WordsSoFar-end : (ws : List Word) (octets : Octets)
     → WordsSoFar ws [] octets → SaysHex ws octets
@@ -44,14 +43,12 @@ rest_says ws rest octets d so_far (all, says) = grind arith
 pub says_unknown : (w : Word) (ws : List Word) (count : ℕ) (octets : Octets)
     → IsTrue (not w.is_quoted) → w.raw ≡ decimal count
     → length octets ≡ count → WordsSoFar ws [] octets → SaysUnknown (w ∷ ws) octets
-says_unknown w ws count octets unquoted number long so_far =
-    (unquoted, number ∙ ap decimal (sym long), WordsSoFar-end ws octets so_far)
+says_unknown w ws count octets unquoted number long so_far = grind (arith, WordsSoFar-end)
 
 -- the length of the data that the words spell is what the first word spells
 pub count_is_length : (w : Word) (count : ℕ) (d : Octets) → w.raw ≡ decimal count
     → w.raw ≡ decimal (length d) → count ≤ 65535 → length d ≤ 65535 → length d ≡ count
-count_is_length w count d number says few short = decimal_injective
-    (length d) count (omega (arith, short)) (omega (arith, few)) (sym says ∙ number)
+count_is_length w count d number says few short = grind (arith, decimal_injective)
 
 -- the words spell only the octets that were read
 pub only_octets : (w : Word) (ws : List Word) (octets d : Octets)

@@ -33,8 +33,7 @@ module _ (fields : List code.Field)
     (i : ℕ) (d : code.Field) (inside : i < length fields) (octets : Octets) where
   split : fields_in
       (drop i fields) ≡ field_of (slice_index_or fields i d) ∷ fields_in (drop (i + 1) fields)
-  split = ap fields_in (drop-cons fields i d inside
-      ∙ ap (λ k. slice_index_or fields i d ∷ drop k fields) (sym (add-one i)))
+  split = grind (arith, drop-cons)
 
   pub there-at : AreCut (drop i fields) octets
       → is_some (field_front (field_of (slice_index_or fields i d)) octets) ≡ true
@@ -52,15 +51,13 @@ module _ (fields : List code.Field)
   pub more-at : list_all is_counted (fields_in (drop i fields)) ≡ true
       → AreCut (drop i fields) octets → AreCut (drop (i + 1) fields)
       (word_front (field_of (slice_index_or fields i d)) octets).1
-  more-at all h = more_fields _ _ octets (counted all).0
-      (subst (λ fs. is_some (cut fs octets) ≡ true) split h)
+  more-at all h = grind (arith, more_fields, split)
 
   pub spaced-at : (before : Octets) → spaced before (field_words (fields_in (drop i fields)) octets)
       ≡ (before ++ word_text (word_front (field_of (slice_index_or fields i d)) octets).0)
       ++ spaced space (field_words (fields_in (drop (i + 1) fields))
       (word_front (field_of (slice_index_or fields i d)) octets).1)
-  spaced-at before = ap (λ fs. spaced before (field_words fs octets)) split
-      ∙ sym (append_assoc before _ _)
+  spaced-at before = grind (arith, split, append_assoc)
 
 pub counted-after : (fields : List code.Field) (i : ℕ) → i < length fields
     → list_all is_counted (fields_in (drop i fields)) ≡ true

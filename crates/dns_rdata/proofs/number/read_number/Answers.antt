@@ -19,10 +19,4 @@ returns-then-number-most c =
     (omega (arith, c.in_ok-number.ensures.1, c.if-number-most.true)))
 
 pub returns : goal.returns
-returns c =
-    grind (
-      arith,
-      SaysIff-some,
-      else-first-eq48-via-then-first-eq48+else-word-ne1,
-      else-first-eq48-via-else-first-eq48,
-    )
+returns c = grind (arith, SaysIff-some)

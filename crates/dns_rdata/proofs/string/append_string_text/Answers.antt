@@ -4,7 +4,4 @@ use Rattle.dns_rdata.proofs.string.append_string_text.Goals.{then-are_plain, els
 use Rattle.dns_rdata.proofs.string.append_string_text.Goals as goal
 
 pub returns : goal.returns
-returns c = elim c.if-are_plain.branch [
-  | then-are_plain w ↦ grind (arith, plain_text, append_assoc)
-  | else-are_plain+else-octets-test w ↦ grind (arith, append_assoc, take_all)
-]
+returns c = grind (arith, plain_text, append_assoc, take_all)
