@@ -27,7 +27,7 @@ pub use Rattle.dns_spec.proofs.Replies.ReplySpelled.{reply_spells}
 pub use Rattle.dns_spec.proofs.Replies.RequiredItems.{IsAlias, each_alias_item, each_of_type, target_of}
 pub use Rattle.dns_spec.proofs.ZoneChecks.FaultOrder.{folded_folded}
 pub use Rattle.dns_spec.proofs.ZoneChecks.PassedChecks.{few_soa, one_soa, passes_check}
-pub use Rattle.dns_spec.specs.Answer.{most_comparisons, stands}
+pub use Rattle.dns_spec.specs.Answer.{most_comparisons, has_set}
 pub use Rattle.dns_spec.specs.Checks.{outside}
 pub use Rattle.dns_spec.specs.Reply.{Reply, decide_question}
 pub use Rattle.dns_wire.specs.PartialMessage.{IsPartial}

@@ -1,12 +1,12 @@
 -- The additional sets of a reply are the addresses of the targets, none of them twice.
-use Rattle.dns_answer.proofs.Common.{arith, ◌≡◌, ℕ, Bool, true, false, cond, ◌||◌, ◌&&◌, ◌⊎◌, inl, inr, not, List, [], ◌∷◌, ◌++◌, refl, sym, ap, ap₂, ◌∙◌, Some, and-false, false≢true, false_from_ne_true, and_right, or_parts, flat_map-append, list_any-append, list_any, DomainName, folded, names_equal, same, type_a, type_aaaa, ResourceRecord, ZoneContents, at, rrset, of_type, additional, Item, records_of, ◌==◌, item, stands, has_any, address_set, address_sets, extra, AllByRecursion, each_weaker, each_typed, each_among, filter_test, item_records, same-is, same-from, addresses_of, target_items, side_items, all_names, at-folded}
+use Rattle.dns_answer.proofs.Common.{arith, ◌≡◌, ℕ, Bool, true, false, cond, ◌||◌, ◌&&◌, ◌⊎◌, inl, inr, not, List, [], ◌∷◌, ◌++◌, refl, sym, ap, ap₂, ◌∙◌, Some, and-false, false≢true, false_from_ne_true, and_right, or_parts, flat_map-append, list_any-append, list_any, DomainName, folded, names_equal, same, type_a, type_aaaa, ResourceRecord, ZoneContents, at, rrset, of_type, additional, Item, records_of, ◌==◌, item, has_set, has_any, address_set, address_sets, extra, AllByRecursion, each_weaker, each_typed, each_among, filter_test, item_records, same-is, same-from, addresses_of, target_items, side_items, all_names, at-folded}
 
 abbrev is_at : DomainName → ℕ → ResourceRecord → Bool
 is_at n t r = same r.owner n && r.rtype == t
 
-stands-append : (n : DomainName) (t : ℕ) (xs ys : List Item)
-    → stands n t (xs ++ ys) ≡ (stands n t xs || stands n t ys)
-stands-append n t xs ys = grind (arith, flat_map-append, list_any-append, records_of)
+has_set-append : (n : DomainName) (t : ℕ) (xs ys : List Item)
+    → has_set n t (xs ++ ys) ≡ (has_set n t xs || has_set n t ys)
+has_set-append n t xs ys = grind (arith, flat_map-append, list_any-append, records_of)
 
 -- a test that gives the result b for all records
 any-each : (p : ResourceRecord → Bool) (b : Bool) (rs : List ResourceRecord)
@@ -46,18 +46,18 @@ IsAddress t = (t ≡ type_a) ⊎ (t ≡ type_aaaa)
 
 -- names that are the same have the same addresses
 module _ (z : ZoneContents) (n m : DomainName) where
-  stands-set : (t u : ℕ) → stands n t (item additional (rrset z m u))
+  has_set-set : (t u : ℕ) → has_set n t (item additional (rrset z m u))
       ≡ ((same m n && u == t) && has_any (rrset z m u))
-  stands-set t u = grind (arith, item_records, any-each, each_weaker, same-is, set-owners)
+  has_set-set t u = grind (arith, item_records, any-each, each_weaker, same-is, set-owners)
 
-  stands-addresses : (t : ℕ) → IsAddress t
-      → stands n t (addresses_of z m) ≡ (same m n && has_any (rrset z m t))
-  stands-addresses t is = grind (arith, stands-append, stands-set)
+  has_set-addresses : (t : ℕ) → IsAddress t
+      → has_set n t (addresses_of z m) ≡ (same m n && has_any (rrset z m t))
+  has_set-addresses t is = grind (arith, has_set-append, has_set-set)
 
 -- the reply contains the addresses of the targets in `before`, and no other addresses
 record Stood (z : ZoneContents) (t : ℕ) (earlier : List Item) (before : List DomainName)
     : Type 0 where
-  are : (n : DomainName) → stands n t earlier ≡ (list_any (same n) before && has_any (rrset z n t))
+  are : (n : DomainName) → has_set n t earlier ≡ (list_any (same n) before && has_any (rrset z n t))
 
 module _ (z : ZoneContents) where
   address-one : (t : ℕ) (earlier : List Item) (before : List DomainName) (m : DomainName)
@@ -79,21 +79,21 @@ module _ (z : ZoneContents) where
         let a = list_any (same n) before in
         let b = list_any (same m) before in
         let h = has_any (rrset z n t) in
-        stands-append n t earlier (target_items z all_names before (Some m))
+        has_set-append n t earlier (target_items z all_names before (Some m))
         ∙ ap₂ (λ x y. x || y) (s.are n) (shown n (same m n) b refl)
         ∙ final a h (same m n) b (λ e. any-same n m before e)
         ∙ ap (λ e. (a || (e || false)) && h) (sym (same-turn n m (same m n) refl))
         ∙ ap (λ x. x && h) (sym (list_any-append (same n) before (m ∷ [])));
   }
     where
-      shown : (n : DomainName) (e b : Bool) → same m n ≡ e → stands n t
+      shown : (n : DomainName) (e b : Bool) → same m n ≡ e → has_set n t
           (cond (not b) (addresses_of z m) []) ≡ (not b && (e && has_any (rrset z n t)))
       shown n e true f = refl
       shown n true false f =
-          stands-addresses z n m t is ∙ ap (λ x. x && has_any (rrset z m t)) f
+          has_set-addresses z n m t is ∙ ap (λ x. x && has_any (rrset z m t)) f
           ∙ ap has_any (rrset-same z n m t f)
       shown n false false f =
-          stands-addresses z n m t is ∙ ap (λ x. x && has_any (rrset z m t)) f
+          has_set-addresses z n m t is ∙ ap (λ x. x && has_any (rrset z m t)) f
 
       final : (a h e b : Bool) → (e ≡ true → a ≡ b)
           → ((a && h) || (not b && (e && h))) ≡ ((a || (e || false)) && h)

@@ -85,8 +85,8 @@ negative_soa z =
     (map (λ (r : ResourceRecord). record r { ttl = min r.ttl (soa_minimum r.rdata) })
     (rrset z z.origin type_soa))
 
--- Those of a name's records that a question for type t asks for. RFC 8482 4.1: a question for all
--- types gets one RRset, in this product the one with the lowest type number.
+-- The records that a question for type t asks for, of the records rs of a name. RFC 8482 4.1: a
+-- question for all types gets one RRset, in this product the one with the lowest type number.
 abbrev pub asked_records : ℕ → List ResourceRecord → List ResourceRecord
 asked_records t rs = if t == qtype_any then of_lowest_type rs else of_type t rs
 
@@ -171,16 +171,16 @@ targets_outside o =
 abbrev pub targets : Outcome → List DomainName
 targets o = targets_of o.answers ++ targets_inside o ++ targets_outside o
 
--- a set in the list has this owner and type
-abbrev pub stands : DomainName → ℕ → List Item → Bool
-stands n t items =
+-- one of the sets has owner n and type t
+abbrev pub has_set : DomainName → ℕ → List Item → Bool
+has_set n t items =
     list_any (λ (r : ResourceRecord). same r.owner n && r.rtype == t) (records_of items)
 
--- a name's set of type t, unless it is in `earlier`; and the name's A and AAAA sets, by the same
--- rule
+-- the additional set of name n and type t; no set if `earlier` has it already
 abbrev pub address_set : ZoneContents → List Item → DomainName → ℕ → List Item
-address_set z earlier n t = if stands n t earlier then [] else item additional (rrset z n t)
+address_set z earlier n t = if has_set n t earlier then [] else item additional (rrset z n t)
 
+-- the additional A and AAAA sets of name n, except those that `earlier` has
 abbrev pub address_sets : ZoneContents → List Item → DomainName → List Item
 address_sets z earlier n = address_set z earlier n type_a ++ address_set z earlier n type_aaaa
 
