@@ -44,7 +44,7 @@ unfoldable pub use Rattle.dns_spec.specs.AddressText.{ipv6_groups}
 pub use Rattle.dns_spec.specs.AllFaults.{AllFaults, EntriesGive, EntryFault, FaultyData, FaultyDirective, FaultyField, FaultyWord, ForData, GivesOwn, HasFault, LookBack, NumberIs, PlaceIs, before_such, before_type, record_words, is_lasting, is_last, line_at, column_at, owner_number, place_after}
 pub use Rattle.dns_spec.specs.Answer.{Outcome, address_set, address_sets, alias_items, alias_set, asked_records, first_target, follows_alias, has_any, has_target_type, is_authoritative, item, last_of, last_sought, main_items, most_aliases, most_visits, names_looked_up, negative, negative_soa, next_sought, nodes_to, outcome_by, positive, referral_to, targets, targets_in_zone, targets_inside, targets_of, targets_outside}
 unfoldable pub use Rattle.dns_spec.specs.Answer.{chain, chain_from, extra, items, outcome, outcome_at, required_items}
-pub use Rattle.dns_spec.specs.Checks.{Check, Fault, Passes, at_or_below_cut, checked_names, checks, count, data_at_cut, fails, fault_order, faults_at, first_is_asterisk, has_target, is_origin, is_owner, lacks_address, large_set, many_sets, most_of_a_set, most_sets, mx_target_alias, ns_target_alias, ns_target_lost, ttls_differ, wildcard_ns}
+pub use Rattle.dns_spec.specs.Checks.{Check, Fault, Passes, at_or_below_cut, checked_names, checks, count, data_at_cut, fails, fault_order, faults_at, first_is_asterisk, has_target, is_origin, is_owner, lacks_address, large_set, many_sets, most_of_a_set, most_sets, mx_target_alias, ns_target_alias, ns_target_lacks_address, ttls_differ, wildcard_ns}
 unfoldable pub use Rattle.dns_spec.specs.Checks.{faults}
 pub use Rattle.dns_spec.specs.CommandWords.{AreOptions, AskToCheck, AskToServe, HasTurns, ServiceAsked, ZoneWords, by_lines, by_turns, is_dashed, service_words, tcp, udp}
 pub use Rattle.dns_spec.specs.ComputedNames.{RunStep, jump, name_if_short, run_end, run_label, run_pointer, step_of, unlawful}

@@ -96,14 +96,15 @@ abbrev pub ns_target_alias : Check
 ns_target_alias z n = has_target z n (λ t. t == type_ns) (λ m. owns z m type_cname)
 
 -- RFC 1034 4.2.1: m, a name server of n, has no address, although the zone must contain one: m is
--- not at or below a cut, or m is at or below the cut n and needs glue. The address of a server at
--- or below another cut is in the zone below that cut.
+-- at or below no cut; or n is a cut, and m is at or below n and needs glue, even if another cut
+-- lies between them. Otherwise the address of m is in the zone below a cut.
 abbrev pub lacks_address : ZoneContents → DomainName → DomainName → Bool
 lacks_address z n m =
     not (has_address z m) && (not (at_or_below_cut z m) || is_cut z n && at_or_below m n)
 
-abbrev pub ns_target_lost : Check
-ns_target_lost z n = has_target z n (λ t. t == type_ns) (lacks_address z n)
+-- against RFC 1034 4.2.1: a target of NS in the zone lacks an address that the zone must contain
+abbrev pub ns_target_lacks_address : Check
+ns_target_lacks_address z n = has_target z n (λ t. t == type_ns) (lacks_address z n)
 
 -- against RFC 2181 10.3 and RFC 2782 (the targets of MX and SRV are not aliases): a target in the
 -- zone is one
@@ -146,7 +147,7 @@ abbrev pub checks : List (ℕ × Check)
 checks =
     (1, no_soa) ∷ (2, many_soa) ∷ (3, soa_elsewhere) ∷ (4, no_ns) ∷ (5, outside)
     ∷ (6, cname_and_other) ∷ (7, many_cname) ∷ (8, ttls_differ) ∷ (9, ns_target_alias)
-    ∷ (10, ns_target_lost) ∷ (11, mx_target_alias) ∷ (12, data_at_cut) ∷ (13, wildcard_ns)
+    ∷ (10, ns_target_lacks_address) ∷ (11, mx_target_alias) ∷ (12, data_at_cut) ∷ (13, wildcard_ns)
     ∷ (14, large_set) ∷ (15, many_sets) ∷ []
 
 -- the name fails the check with this code

@@ -52,8 +52,9 @@ SpellsString text (x ∷ s) =
 abbrev pub SaysString : Octets → Octets → Type 0
 SaysString text d = (s : Octets) × (length s ≤ 255) × SpellsString text s × (d ≡ length s ∷ s)
 
--- The text spells the field, or one of the strings of `strings`; a name is relative to the origin.
--- `anything` has no form, since no type with a mnemonic has such a field.
+-- The text spells a field of this kind, whose octets are d. Names are relative to the origin. For
+-- `strings`, the text spells one of the strings. No text spells a field `anything`, which only
+-- types without a mnemonic have.
 abbrev pub SaysField : Field → DomainName → Octets → Octets → Type 0
 SaysField (number k) origin text d = SaysNumber k text d
 SaysField ipv4 origin text d = SaysIpv4 text d

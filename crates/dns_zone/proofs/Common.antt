@@ -41,7 +41,7 @@ pub use Rattle.dns_zone.specs.NameEnd.{ending}
 pub use Rattle.dns_zone.specs.NamesForm.{AreChecked, AreOwners, ComesNext, IsChecked, IsCutAbove, IsLastUpto, IsCheckContext, IsTopmost, first_owner, is_covered, is_upto, owner_of, own_in}
 pub use Rattle.dns_zone.specs.NodeForm.{IsZoneNode, IsZoneTree, child_label, child_rows, node_at}
 pub use Rattle.dns_zone.specs.Nodes.{IsNode, IsSetOf, Walk, ZoneNode}
-pub use Rattle.dns_zone.specs.OwnerForm.{IsOwner, NameOfZone, is_exchange_alias, is_exchange_type, is_other_type, is_plain_type, is_server_alias, is_server_lost, number_of}
+pub use Rattle.dns_zone.specs.OwnerForm.{IsOwner, NameOfZone, is_exchange_alias, is_exchange_type, is_other_type, is_plain_type, is_server_alias, server_lacks_address, number_of}
 pub use Rattle.dns_zone.specs.FaultForm.{failed_from, fault_of, faults_in, faults_of, numbered_owner, zone_in}
 pub use Rattle.dns_zone.specs.ReportedForm.{begins_with_owner, owners_once}
 unfoldable pub use Rattle.dns_zone.specs.ReportedForm.{reported_at}

@@ -25,8 +25,8 @@ is_server_alias z r = r.rtype == type_ns && option_map_or
     (λ m. at_or_below m z.origin && owns z m type_cname) (target r.rtype r.rdata) false
 
 -- an NS record of a name, whose target is a name in the zone that lacks an address
-abbrev pub is_server_lost : ZoneContents → DomainName → ResourceRecord → Bool
-is_server_lost z n r = r.rtype == type_ns && option_map_or
+abbrev pub server_lacks_address : ZoneContents → DomainName → ResourceRecord → Bool
+server_lacks_address z n r = r.rtype == type_ns && option_map_or
     (λ m. at_or_below m z.origin && lacks_address z n m) (target r.rtype r.rdata) false
 
 -- an MX or SRV record whose target is a name in the zone that owns a CNAME

@@ -1,5 +1,5 @@
 -- The faults of a list of records do not depend on its order.
-use Rattle.dns_spec.proofs.Common.{◌≡◌, ℕ, Bool, true, ◌&&◌, eqb, nat_lt, ◌==◌, List, [], ◌∷◌, map, reverse, length, sym, ap, ap₂, ◌∙◌, arith, flat_map, IsPermutation, is_eq, nat_cmp, Equal, eqb-true, reverse-reverse, list_any, IsTotalOrder, lists_ties, DomainName, folded, same, names_equal, label_order, name_order, ResourceRecord, ZoneContents, at, owns, distinct, nat_cmp_total, nat_list_cmp_total, lists_total, on_total, most_sets, Check, has_target, ttls_differ, ns_target_alias, lacks_address, ns_target_lost, mx_target_alias, data_at_cut, large_set, many_sets, Fault, faults_at, checked_names, faults, AllByRecursion}
+use Rattle.dns_spec.proofs.Common.{◌≡◌, ℕ, Bool, true, ◌&&◌, eqb, nat_lt, ◌==◌, List, [], ◌∷◌, map, reverse, length, sym, ap, ap₂, ◌∙◌, arith, flat_map, IsPermutation, is_eq, nat_cmp, Equal, eqb-true, reverse-reverse, list_any, IsTotalOrder, lists_ties, DomainName, folded, same, names_equal, label_order, name_order, ResourceRecord, ZoneContents, at, owns, distinct, nat_cmp_total, nat_list_cmp_total, lists_total, on_total, most_sets, Check, has_target, ttls_differ, ns_target_alias, lacks_address, ns_target_lacks_address, mx_target_alias, data_at_cut, large_set, many_sets, Fault, faults_at, checked_names, faults, AllByRecursion}
 use Rattle.dns_spec.proofs.DomainNames.NameLaws.{names_equal-decides}
 pub use Rattle.dns_spec.proofs.DataWords.LoweredData.{folded_folded}
 use Rattle.dns_spec.proofs.General.Elements.{each_any}
@@ -85,8 +85,8 @@ module _ (o : DomainName) (xs ys : List ResourceRecord) (c : SameCounts xs ys) w
   ns_target_alias_kept : Kept ns_target_alias
   ns_target_alias_kept n = grind (arith, target_kept, owns_kept)
 
-  ns_target_lost_kept : Kept ns_target_lost
-  ns_target_lost_kept n = grind (arith, target_kept, lacks_kept)
+  ns_target_lacks_address_kept : Kept ns_target_lacks_address
+  ns_target_lacks_address_kept n = grind (arith, target_kept, lacks_kept)
 
   mx_target_alias_kept : Kept mx_target_alias
   mx_target_alias_kept n = grind (arith, target_kept, owns_kept)
@@ -111,7 +111,7 @@ module _ (o : DomainName) (xs ys : List ResourceRecord) (c : SameCounts xs ys) w
         same_at,
         ttls_differ_kept,
         ns_target_alias_kept,
-        ns_target_lost_kept,
+        ns_target_lacks_address_kept,
         mx_target_alias_kept,
         data_at_cut_kept,
         large_set_kept,

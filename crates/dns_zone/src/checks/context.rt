@@ -72,7 +72,8 @@ impl<'a> CheckContext<'a> {
         }
     }
 
-    // The checked name that is the target, if it is at a probable index. Makes no key.
+    // A fast path: the checked name that is the target, if it is at one of the indexes that are
+    // tried first. Makes no key.
     fn soon_found(&self, target: &NameRef<'_>, last: &mut LastTarget) -> Option<&'a CheckedName<'a>>
         ensures { IfSome result (λ one. IsChecked self.now target.now one.now) }
     {
@@ -85,7 +86,8 @@ impl<'a> CheckContext<'a> {
         None
     }
 
-    // The last checked name that is not after the target, which is at or below the origin.
+    // The last checked name that does not come after the target in canonical order. The target is at
+    // or below the origin, which is a checked name, so there is one.
     fn last_upto(&self, target: &mut LastTarget) -> &'a CheckedName<'a>
         requires lower { folded target.old ≡ target.old }
         requires inside { at_or_below target.old self.now.origin ≡ true }
@@ -119,10 +121,10 @@ impl<'a> CheckContext<'a> {
         (&[], is_covered(one.cut, one.key, key))
     }
 
-    /// Whether the record's target is in the zone and owns a CNAME (RFC 2181 10.3), and whether the
-    /// zone lacks an address of it that it has to contain (RFC 1034 4.2.1). It has to contain one
-    /// if the target is at or below the origin, and at or below no cut but perhaps the owner. The
-    /// target is looked up once.
+    /// Whether the record's target is in the zone and owns a CNAME (RFC 2181 10.3), and whether it
+    /// needs an address in the zone, but has none (RFC 1034 4.2.1). It needs one if it is at or
+    /// below the origin and either at or below no cut, or at or below the owner, which is a cut
+    /// (even if another cut lies between them). The target is looked up once.
     pub(crate) fn target_faults(
         &self,
         entry: &StoredRecord,
@@ -135,7 +137,7 @@ impl<'a> CheckContext<'a> {
         ensures alias { result.0 ≡ option_map_or
             (λ m. at_or_below m self.now.origin && owns self.now m type_cname)
             (target entry.now.rtype entry.now.rdata) false }
-        ensures lost { result.1 ≡ option_map_or
+        ensures lacks_address { result.1 ≡ option_map_or
             (λ m. at_or_below m self.now.origin && lacks_address self.now owner.now m)
             (target entry.now.rtype entry.now.rdata) false }
     {
@@ -145,7 +147,7 @@ impl<'a> CheckContext<'a> {
         }
     }
 
-    // The same for this target.
+    // The same as `target_faults`, for a record with this target.
     fn name_faults(
         &self,
         target: &NameRef<'_>,
@@ -158,16 +160,16 @@ impl<'a> CheckContext<'a> {
         requires lower_owner { folded owner.now ≡ owner.now }
         ensures alias { result.0 ≡ (at_or_below target.now self.now.origin
             && owns self.now target.now type_cname) }
-        ensures lost { result.1 ≡ (at_or_below target.now self.now.origin
+        ensures lacks_address { result.1 ≡ (at_or_below target.now self.now.origin
             && lacks_address self.now owner.now target.now) }
     {
         if !is_at_or_below(target, self.origin) {
             return (false, false);
         }
         let (own, is_under_cut) = self.at(target, last);
-        let is_lost = !self.has_address(target, own)
+        let lacks_address = !self.has_address(target, own)
             && (!is_under_cut || owner_is_cut && is_at_or_below(target, owner));
-        (has_type(own, RType::CNAME), is_lost)
+        (has_type(own, RType::CNAME), lacks_address)
     }
 
     #[tactic(auto, using(crate::proofs::OwnRecords::own_owns))]

@@ -4,9 +4,9 @@ ghost use Rattle.std.specs.Bool.{OnTrue};
 ghost use Rattle.std.specs.List.{list_all, list_any, zip};
 ghost use Rattle.dns_spec.specs.Records.{owns};
 ghost use Rattle.dns_spec.specs.Tree.{is_cut};
-ghost use Rattle.dns_spec.specs.Checks.{is_origin, count, owns_such, is_address_type, below_cut, checks, ttls_differ, ns_target_alias, ns_target_lost, mx_target_alias, data_at_cut, large_set, many_sets};
+ghost use Rattle.dns_spec.specs.Checks.{is_origin, count, owns_such, is_address_type, below_cut, checks, ttls_differ, ns_target_alias, ns_target_lacks_address, mx_target_alias, data_at_cut, large_set, many_sets};
 ghost use Rattle.dns_spec.specs.Data.{type_soa, type_ns, type_cname};
-ghost use Rattle.dns_zone.specs.OwnerForm.{is_other_type, is_plain_type, is_server_alias, is_server_lost, is_exchange_alias};
+ghost use Rattle.dns_zone.specs.OwnerForm.{is_other_type, is_plain_type, is_server_alias, server_lacks_address, is_exchange_alias};
 ghost use Rattle.dns_zone.specs.ReportedForm.{reported_at};
 ghost use Rattle.dns_zone.specs.SetWalks.{sets_ended};
 
@@ -31,7 +31,7 @@ struct TargetFaults {
     // The target of an NS record is an alias.
     ns_alias: bool,
     // The target of an NS record lacks an address.
-    ns_lost: bool,
+    ns_lacks_address: bool,
     // The target of an MX or SRV record is an alias.
     exchange_alias: bool,
 }
@@ -81,7 +81,7 @@ impl<'a> Owner<'a> {
             self.count(RType::CNAME) > 1,
             self.has_other_ttls(),
             targets.ns_alias,
-            targets.ns_lost,
+            targets.ns_lacks_address,
             targets.exchange_alias,
             self.has_data_at_cut(),
             self.name.is_wildcard() && self.owns(RType::NS),
@@ -114,7 +114,7 @@ impl<'a> Owner<'a> {
     // The faults of the targets of all records. Each target is looked up once.
     fn target_faults(&self, last: &mut LastTarget) -> TargetFaults
         ensures alias { result.ns_alias ≡ ns_target_alias self.now.zone self.now.name }
-        ensures lost { result.ns_lost ≡ ns_target_lost self.now.zone self.now.name }
+        ensures lacks_address { result.ns_lacks_address ≡ ns_target_lacks_address self.now.zone self.now.name }
         ensures exchange { result.exchange_alias ≡ mx_target_alias self.now.zone self.now.name }
     {
         let owner_is_cut = self.is_cut();
@@ -123,7 +123,7 @@ impl<'a> Owner<'a> {
         'targets: while let Some((first, others)) = rest.split_first() {
             let faults = self.record_faults(first, owner_is_cut, last);
             found.ns_alias |= faults.ns_alias;
-            found.ns_lost |= faults.ns_lost;
+            found.ns_lacks_address |= faults.ns_lacks_address;
             found.exchange_alias |= faults.exchange_alias;
             rest = others;
         }
@@ -139,19 +139,19 @@ impl<'a> Owner<'a> {
     ) -> TargetFaults
         requires { owner_is_cut ≡ is_cut self.now.zone self.now.name }
         ensures alias { result.ns_alias ≡ is_server_alias self.now.zone entry.now }
-        ensures lost { result.ns_lost ≡ is_server_lost self.now.zone self.now.name entry.now }
+        ensures lacks_address { result.ns_lacks_address ≡ server_lacks_address self.now.zone self.now.name entry.now }
         ensures exchange { result.exchange_alias ≡ is_exchange_alias self.now.zone entry.now }
     {
         let is_server = entry.rtype == RType::NS;
         if !is_server && entry.rtype != RType::MX && entry.rtype != RType::SRV {
             return TargetFaults::default();
         }
-        let (is_alias, is_lost) = self
+        let (is_alias, lacks_address) = self
             .context
             .target_faults(entry, self.name, owner_is_cut, last);
         TargetFaults {
             ns_alias: is_server && is_alias,
-            ns_lost: is_server && is_lost,
+            ns_lacks_address: is_server && lacks_address,
             exchange_alias: !is_server && is_alias,
         }
     }

@@ -1,4 +1,4 @@
-use Rattle.dns_zone.proofs.Common.{◌≡◌, ◌||◌, length, list_any, is_server_alias, is_server_lost, is_exchange_alias}
+use Rattle.dns_zone.proofs.Common.{◌≡◌, ◌||◌, length, list_any, is_server_alias, server_lacks_address, is_exchange_alias}
 use Rattle.dns_zone.proofs.checks.owner.Owner.target_faults.Given as goal
 
 -- some record has a fault if it was found so far or a remaining record has it
@@ -8,8 +8,8 @@ invariant-targets l =
     let n = l.self.name in
     ((l.found.ns_alias || list_any (is_server_alias z) l.rest)
     ≡ list_any (is_server_alias z) l.initial.rest)
-    × ((l.found.ns_lost || list_any (is_server_lost z n) l.rest)
-    ≡ list_any (is_server_lost z n) l.initial.rest)
+    × ((l.found.ns_lacks_address || list_any (server_lacks_address z n) l.rest)
+    ≡ list_any (server_lacks_address z n) l.initial.rest)
     × ((l.found.exchange_alias || list_any (is_exchange_alias z) l.rest)
     ≡ list_any (is_exchange_alias z) l.initial.rest)
 
