@@ -16,8 +16,8 @@ use dns_name::NameRef;
 use std::alloc::{AllocError, Global};
 
 /// Sorts records into canonical order without duplicates (RFC 4034 6.1, 6.3, RFC 2181 5), and
-/// returns them with the keys of their owners. Their sort keys are sorted, and then the
-/// records are moved.
+/// returns them with the keys of their owners. Their sort keys are sorted, and then the records are
+/// moved.
 pub(crate) fn sorted(
     alloc: Global,
     origin: &NameRef<'_>,
@@ -68,8 +68,8 @@ fn sort_distinct(
     Ok(())
 }
 
-// Moves the record of each sort key to the index of this key in the list, and drops the others.
-// Leaves other indices in the sort keys.
+// Puts the records in the order of their sort keys, and drops the records without one. Overwrites
+// the indices in the sort keys.
 fn gather(records: &mut Vec<StoredRecord>, sort_keys: &mut [SortKey])
     requires few { length records.old.items ≤ most_records }
     requires inside { All (λ (p : SortKey). p.at < length records.old.items) sort_keys.old }
@@ -78,8 +78,8 @@ fn gather(records: &mut Vec<StoredRecord>, sort_keys: &mut [SortKey])
     ensures { records.new.items ≡ map (placed records.old.items no_record) sort_keys.old }
 {
     'sort_keys: for to in 0..sort_keys.len() {
-        // Indices before `to` are filled. If the record was at one of them, it was swapped to the
-        // index that the sort key there has now.
+        // The indices before `to` are filled. A record that was at one of them was swapped to the
+        // index that is now in the sort key there, and perhaps on from that one.
         let mut from = sort_keys[to].at as usize;
         'moved: while from < to {
             from = sort_keys[from].at as usize;

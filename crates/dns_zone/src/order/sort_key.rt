@@ -1,4 +1,4 @@
-//! Sort keys of records, which are sorted in their stead.
+//! Small sort keys of records. These are sorted, so that each record has to be moved only once.
 ghost use Rattle.std.specs.Prelude.{◌≡◌, ℕ, ◌-◌, ◌<◌, ◌≤◌, length, get_or, OnOk, IfSome};
 ghost use Rattle.std.specs.declared.cmp.Ordering.TheVariants.{Less};
 ghost use Rattle.std.specs.Cmp.Lexicographic.{slice_cmp};
@@ -72,7 +72,7 @@ fn padded(octets: &[u8]) -> [u8; 8]
     eight
 }
 
-// A sort key is moved back past fewer greater ones than this.
+// A sort key is moved back only past fewer greater ones than this.
 const NEAR: usize = 7;
 
 /// The canonical order of records, by their sort keys.
@@ -86,8 +86,8 @@ pub(crate) struct Order<'a> {
 }
 
 impl<'a> Order<'a> {
-    /// Sorts sort keys, of which the first `kept` are in order. If the others are at most a quarter,
-    /// they are merged with these.
+    /// Sorts sort keys. The first `kept` are in order, as `keep_rising` leaves them. If at most a
+    /// quarter are not, the stable sort makes use of that order.
     pub(crate) fn sort(&self, sort_keys: &mut Vec<SortKey>, kept: usize) -> Result<(), AllocError>
         requires { kept ≤ length sort_keys.old.items }
         ensures { OnOk result (IsPermutation sort_keys.old.items sort_keys.new.items × IsSorted
@@ -102,11 +102,13 @@ impl<'a> Order<'a> {
         Ok(())
     }
 
-    /// Moves sort keys that rise to the beginning of the list, and returns how many they are. Most
-    /// files list their names in order, with few exceptions; some list the records of a name in no
-    /// order. So a sort key is moved back past up to six greater ones. Seven are taken for the
-    /// exceptions, and left out in its stead. A sort key with more greater ones is left out itself,
-    /// and so is one that is equal to another.
+    /// Moves sort keys to the front of the list so that they rise there, and returns how many these
+    /// are. The others follow in any order.
+    ///
+    /// Most files list their names in order, with few exceptions; some list the records of a name
+    /// in no order. So a sort key is put in its place at the front if at most six there are
+    /// greater. If seven are greater, these seven are taken for the exceptions, and it replaces
+    /// them. If more are greater, or one is equal, it stays out of the front.
     pub(crate) fn keep_rising(&self, sort_keys: &mut [SortKey]) -> usize
         ensures moved { IsPermutation sort_keys.old sort_keys.new }
         ensures count { result ≤ length sort_keys.new }
@@ -130,8 +132,8 @@ impl<'a> Order<'a> {
         kept
     }
 
-    // The index at which a sort key belongs among the first `kept` ones, if it is after all but the
-    // last seven of them, and equals none.
+    // The index at which the sort key at `at` belongs among the first `kept`, which rise. `None` if
+    // one of these is equal to it, or more than seven are greater.
     fn index_near(&self, sort_keys: &[SortKey], kept: usize, at: usize) -> Option<usize>
         requires kept { kept ≤ length sort_keys.now }
         requires at { at < length sort_keys.now }
@@ -150,7 +152,7 @@ impl<'a> Order<'a> {
                 Ordering::Equal => return None,
                 Ordering::Greater => {}
             }
-            // After two comparisons, one more tells whether it belongs too far back.
+            // If two are greater, the eighth from the end shows whether more than seven are.
             let is_far = to + 2 == kept
                 && kept > NEAR
                 && self

@@ -8,7 +8,7 @@ ghost use Rattle.dns_zone.specs.NodeForm.{AreChildrenAt, IsZoneNode, node_at, ch
 
 use crate::store::stored::StoredRecord;
 use crate::tree::counts::Counts;
-use crate::tree::label_key::{KEY_OCTETS, LabelKey, first_octets, order_to};
+use crate::tree::label_key::{KEY_OCTETS, LabelKey, first_label_octets, order_to};
 use crate::tree::node::Node;
 use crate::tree::octets_of;
 use crate::tree::row::{Row, RowNumber};
@@ -125,6 +125,6 @@ fn order_of(records: &[StoredRecord], row: &Row, key: &LabelKey, label: &[u8]) -
     if count <= KEY_OCTETS || label.len() <= KEY_OCTETS {
         return count.cmp(&label.len());
     }
-    let own = first_octets(&NameRef::new(octets_of(records, row)));
+    let own = first_label_octets(&NameRef::new(octets_of(records, row)));
     order_to(own.split_at(KEY_OCTETS).1, label.split_at(KEY_OCTETS).1)
 }

@@ -49,8 +49,8 @@ fn eight_of(label: &[u8]) -> u64
     key
 }
 
-/// The octets of a name's first label. For the root, none.
-pub(crate) fn first_octets<'a>(name: &NameRef<'a>) -> &'a [u8]
+/// The octets of a name's first label; none for the root.
+pub(crate) fn first_label_octets<'a>(name: &NameRef<'a>) -> &'a [u8]
     ensures value { result.now ≡ first_of name.now }
     ensures bound { length result.now ≤ 63 }
 {
@@ -84,7 +84,7 @@ pub(crate) fn order_to(lower: &[u8], label: &[u8]) -> Ordering
     }
 }
 
-// What is left of each after the equal chunks of eight octets with which both begin.
+// The rests of both labels after the chunks of eight octets that are equal in both.
 fn after_same<'a>(lower: &'a [u8], label: &'a [u8]) -> (&'a [u8], &'a [u8])
     requires { map to_ascii_lowercase lower.now ≡ lower.now }
     ensures { label_order result.0.now (map to_ascii_lowercase result.1.now)

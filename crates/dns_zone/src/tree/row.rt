@@ -6,7 +6,7 @@ ghost use Rattle.dns_zone.specs.TreeForm.{owners, under, IsRow};
 
 use crate::order::lookup::{count_in_front, count_under};
 use crate::store::stored::StoredRecord;
-use crate::tree::label_key::{LabelKey, first_octets};
+use crate::tree::label_key::{LabelKey, first_label_octets};
 use dns_name::NameRef;
 
 /// The number of a node's row in its tree. The origin's is 0.
@@ -51,7 +51,7 @@ impl Row {
         // The first record is at or below the name, even if it is not the name's own.
         let known = own.max(1);
         let (_, after) = others.split_at(known);
-        let label = first_octets(name);
+        let label = first_label_octets(name);
         Row {
             first: first as u32,
             own_end: (first + own) as u32,

@@ -18,7 +18,10 @@ use std::alloc::{AllocError, Global};
 #[derive(Drop)]
 pub(crate) struct Tree {
     zone: CheckedZone,
+    // A row for each name, level by level. The children of a row are adjacent.
     rows: SharedSlice<Row>,
+    // For each row the number of its first child's row, and at the end the number of all rows. The
+    // children of a row end where those of the next row begin.
     bounds: SharedSlice<u32>,
 }
 

@@ -61,9 +61,9 @@ returns-then-count-le-KEY_OCTETS c =
 
 pub order_to-requires : goal.order_to-requires
 order_to-requires c =
-    let own = c.first_octets-own.result.now in
+    let own = c.first_label_octets-own.result.now in
     let lower : map to_ascii_lowercase own ≡ own =
-    subst (λ l. map to_ascii_lowercase l ≡ l) (sym (c.first_octets-own.ensures.value
+    subst (λ l. map to_ascii_lowercase l ≡ l) (sym (c.first_label_octets-own.ensures.value
     ∙ ap first_label (c.new.ensures.value ∙ c.octets_of.ensures.name)))
     (first_lower (row_name c.args.records.now c.args.row.now) c.requires.row.lower) in
     ap (map to_ascii_lowercase) c.split_at.ensures.back
@@ -76,7 +76,7 @@ returns c =
     let long = c.if-count-le-KEY_OCTETS.false in
     let asked = c.if-label-le-KEY_OCTETS.false in
     c.order_to.ensures
-    ∙ ap₂ label_order (c.split_at.ensures.back ∙ ap (drop 16) (c.first_octets-own.ensures.value
+    ∙ ap₂ label_order (c.split_at.ensures.back ∙ ap (drop 16) (c.first_label_octets-own.ensures.value
     ∙ ap first_label (c.new.ensures.value ∙ c.octets_of.ensures.name)))
     (ap (map to_ascii_lowercase) c.split_at-2.ensures.back
     ∙ sym (drop-map to_ascii_lowercase 16 c.args.label.now))
