@@ -30,7 +30,7 @@ pub(crate) enum Ending<'a> {
     AfterLine(&'a [u8]),
     /// At a misplaced parenthesis, which begins this text.
     AtParenthesis(&'a [u8]),
-    /// Before this text, with which no token begins, inside parentheses or not.
+    /// Before this text, from which no token can be read; true inside parentheses.
     AtStop(bool, &'a [u8]),
 }
 
@@ -116,7 +116,7 @@ pub(crate) fn step_after(token: Token<'_>, is_open: bool) -> Progress
 
 /// The text after an entry, if the entry is complete: it ends with a line end, or without a fault
 /// at the end of a text that does not go on. `goes_on` says whether the text goes on past its
-/// limit, if that is known.
+/// limit; it is `None` while more text may follow.
 ///
 /// Returns `None` if only more text could decide whether the entry is complete. Fails with the
 /// lexical fault of the entry.
@@ -157,9 +157,9 @@ pub(crate) fn ending_fault(ending: Ending<'_>, goes_on: bool) -> Option<ReadCode
     }
 }
 
-// The fault of an entry that no line end ends. `rest` is the text after its tokens, with which no
-// token begins, and `is_open` is whether they leave a parenthesis open. `goes_on` is whether the
-// text goes on past its limit.
+// The fault of an entry without a line end; `None` if it ends with the text. `rest` is the text
+// after the last token, from which no other token can be read. `is_open` is whether this is inside
+// parentheses, and `goes_on` is whether the text goes on past its limit.
 fn stop_fault(rest: &[u8], is_open: bool, goes_on: bool) -> Option<ReadCode>
     ensures value { option_map fault_of result
         ≡ stop_fault (extent_by goes_on) is_open (stop_at rest.now) }
@@ -179,9 +179,9 @@ fn stop_fault(rest: &[u8], is_open: bool, goes_on: bool) -> Option<ReadCode>
     Some(unless_cut_short(goes_on, rest, token_fault(rest)))
 }
 
-// Returns `fault`, the fault of the text `rest`, with which no token begins or continues; or
-// returns `TooLong` if only octets past the limit could decide that, because the text is empty, or
-// may be the beginning of an escape or of CR LF.
+// Returns `fault`, the fault of the text `rest`, from which no token can be read or continued; or
+// returns `TooLong` if octets past the limit could change that, because the text is empty, or may
+// be the beginning of an escape or of CR LF.
 fn unless_cut_short(goes_on: bool, rest: &[u8], fault: ReadCode) -> ReadCode
     ensures value { fault_of result ≡ unless_cut_short (extent_by goes_on) rest.now
         (fault_of fault) }
@@ -198,7 +198,8 @@ fn unless_cut_short(goes_on: bool, rest: &[u8], fault: ReadCode) -> ReadCode
     }
 }
 
-// The fault of the text after the octets of a quoted string, if no quotation mark ends the string.
+// The fault of a quoted string without a closing quotation mark. `rest` is the text after the
+// octets of the string.
 fn string_fault(rest: &[u8]) -> ReadCode
     ensures value { fault_of result ≡ string_fault rest.now }
     ensures source { result ≢ ReadCode.SourceFailed }
@@ -209,7 +210,7 @@ fn string_fault(rest: &[u8]) -> ReadCode
     }
 }
 
-// The fault of a text with which no token begins.
+// The fault of a text from which no token can be read.
 fn token_fault(rest: &[u8]) -> ReadCode
     ensures value { fault_of result ≡ token_fault rest.now }
     ensures source { result ≢ ReadCode.SourceFailed }

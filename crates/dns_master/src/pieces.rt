@@ -116,8 +116,9 @@ impl PieceReader {
         Ok(())
     }
 
-    /// Adds the records of the held octets, which are the last ones of the file, or if `goes_on` is
-    /// true, the last ones up to its limit.
+    /// Adds the records of the held octets, which are the last ones of the file or, if `goes_on` is
+    /// true, the last ones before the limit of its size. If the file goes on, fails with the fault
+    /// of an entry before the limit, or else with `TooLong`.
     pub(crate) fn finish<C: RecordCollection>(
         self,
         goes_on: bool,
@@ -146,7 +147,8 @@ impl PieceReader {
 }
 
 // Adds the records of the complete entries at the front of a text, and returns the text after them.
-// `goes_on` says whether the text goes on past its limit, if that is known.
+// `goes_on` says whether the file goes on past the limit of its size; it is `None` while more
+// pieces may follow.
 fn take_entries<'a, C: RecordCollection>(
     alloc: Global,
     reader: &mut Reader,

@@ -184,7 +184,8 @@ pub(crate) fn after_blanks(text: &[u8]) -> &[u8]
 {
     match text {
         [first, others @ ..] if is_blank(*first) => match others.first() {
-            Some(next) if *next <= b' ' => after_run(others),
+            // Only these can be a second blank.
+            Some(next) if *next <= b' ' => after_long_blank(others),
             _ => others,
         },
         _ => text,
@@ -192,9 +193,9 @@ pub(crate) fn after_blanks(text: &[u8]) -> &[u8]
 }
 
 // Does the same as `after_blanks`. It is rarely called, because most blanks are one octet. It skips
-// spaces in eights, because a line may be padded with spaces.
+// eight spaces at once, because a line may be padded with spaces.
 #[inline(never)]
-fn after_run(text: &[u8]) -> &[u8]
+fn after_long_blank(text: &[u8]) -> &[u8]
     ensures { result.now ≡ drop (prefix_len is_blank text.now) text.now }
 {
     let mut rest = text;

@@ -1,5 +1,5 @@
 use Rattle.dns_master.proofs.Common.{◌≡◌, length, drop, prefix_len, is_blank}
-use Rattle.dns_master.proofs.run.after_run.Given as goal
+use Rattle.dns_master.proofs.run.after_long_blank.Given as goal
 
 -- skipping the blanks at the front of `rest` leaves the same text as skipping those of `text`
 abbrev pub invariant-blanks : goal.invariant-blanks
