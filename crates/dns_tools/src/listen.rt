@@ -1,5 +1,5 @@
-//! A server at its socket: the socket at an address or as the process was given it, and turns over
-//! UDP.
+//! A server's socket, which is bound to an address or was given to the process, and the turns of a
+//! server over UDP.
 ghost use Rattle.std.specs.Prelude.{◌≡◌, ◌+◌, ◌^◌, ◌<◌, Bool, true, false, IfOk, IfErr};
 ghost use Rattle.dns_tools.specs.Turns.{TakesTurns, EndsTurns};
 
@@ -14,7 +14,7 @@ use std::net::{IpAddr, Net, SocketAddr, TcpListener, TcpStream, UdpSocket};
 use std::os::fd::{AsFd, OwnedFd};
 use std::time::Clock;
 
-// How often a call on a given socket is repeated that says nothing about the kind of the socket.
+// How often sending to port 0 is tried, if the error says nothing about the kind of the socket.
 const MOST_PROBES: u32 = 16;
 
 /// A UDP socket at an address, which has received nothing yet. Fails with `bind` if the address
@@ -89,9 +89,9 @@ fn is_udp(socket: &UdpSocket, address: SocketAddr) -> bool {
     address.port() > 0 && socket.peer_addr().is_err() && refuses_port_0(socket, address.ip())
 }
 
-// Whether the socket refuses to send to port 0, which is invalid over UDP. A raw socket has no ports:
-// it sends these octets, an IP header for a socket that takes one, to its own host, which discards
-// them. A call that fails for another reason, as want of buffers, is repeated.
+// Whether the socket refuses to send to port 0, which is invalid over UDP. A raw socket has no
+// ports: it sends these octets, an IP header for a socket that takes one, to its own host, which
+// discards them. A call that fails for another reason, such as a lack of buffers, is repeated.
 fn refuses_port_0(socket: &UdpSocket, ip: IpAddr) -> bool {
     let mut octets = [0; 40];
     octets[0] = 0x45;
@@ -123,9 +123,9 @@ pub trait Ending {
         ensures { result ≡ over self.now };
 }
 
-/// Takes `turns` turns at a device, one after another, or fewer if the server is asked to end; turns
-/// that fail count too. Returns whether every diagnostic was written to standard error: `U1` if no
-/// datagram was received, `U2` if a reply was not sent.
+/// Takes `turns` turns at a device, one after another, or fewer if the server is asked to end;
+/// turns that fail count too. Returns whether every diagnostic was written to standard error: `U1`
+/// if no datagram was received, `U2` if a reply was not sent.
 pub fn serve_datagrams<E: Eprint, D: Datagrams + Ending>(
     rt: &E,
     zone: &Zone,
