@@ -19,33 +19,34 @@ use std::time::Duration;
 // longest time (RFC 7766 6.2.3). Each takes 98,305 octets for its input and replies.
 const MOST_PEERS: usize = 256;
 
-// The keys of connections are lower: one more connection has a place until another is closed.
+// The keys of connections are below this: there is room for one connection too many, until another
+// one is closed.
 const KEYS: usize = MOST_PEERS + 1;
 
 // How many connections are accepted at most before the others get a turn.
 const ACCEPTS: u32 = 16;
 
-// Times in milliseconds.
+// How long a connection may neither complete a message nor take all its replies.
+const PROGRESS_MILLIS: u64 = 10_000;
 
-// How long a connection may neither complete a message nor take all its replies. If connections are
-// served one after another: also how long a connection may begin new messages.
-const LIMIT: u64 = 10_000;
+// How long a connection may send nothing, if no message is incomplete and no reply unsent, and the
+// server is to end or serves one connection at a time.
+const SILENCE_MILLIS: u64 = 300;
 
-// How long a connection may take no reply and complete no message, if no message is incomplete and
-// no reply unsent, and the server is to end or other connections wait.
-const SILENCE: u64 = 300;
+// If one connection is served at a time: how long it may send nothing at first.
+const FIRST_MILLIS: u64 = 2_000;
 
-// The same before the first message, if other connections wait.
-const FIRST: u64 = 2_000;
+// If one connection is served at a time: how long it may begin new messages.
+const BEGIN_MILLIS: u64 = 10_000;
 
 // How long the server may take to end.
-const ENDING: u64 = 3_000;
+const ENDING_MILLIS: u64 = 3_000;
 
-// How often the limits are checked at most.
-const SWEEP: u64 = 100;
+// The shortest time between two checks of these limits.
+const SWEEP_MILLIS: u64 = 100;
 
 // How long nothing is accepted after a connection could not be accepted.
-const PAUSE: u64 = 100;
+const PAUSE_MILLIS: u64 = 100;
 
 fn after(time: Duration, millis: u64) -> Duration {
     time.saturating_add(Duration::from_millis(millis))
@@ -63,9 +64,9 @@ impl Served for Brand {
 /// How many connections are served at once.
 #[derive(Clone, Copy, Debug, PartialEq, Eq)]
 pub enum Capacity {
-    /// One, while others wait. It is closed if it sends nothing for 2 seconds after it was
-    /// accepted, or for 0.3 seconds after a reply. 10 seconds after it was accepted, no new message
-    /// may begin.
+    /// One; others wait until it is closed. It is closed if it sends nothing for 2 seconds after it
+    /// was accepted, or for 0.3 seconds after a reply. 10 seconds after it was accepted, no new
+    /// message may begin.
     One,
     /// At most 256. One more takes the place of the one that made no progress for the longest time.
     Many,
@@ -167,14 +168,15 @@ struct Connections<'z, Z: Served, K: Sockets> {
     plan: Plan,
     // How many connections may still be accepted.
     left: u32,
-    // Whether a connection may wait: not after accepting would have blocked, until one is reported.
+    // Whether a connection may be waiting to be accepted. False after accepting would have blocked,
+    // until a connection is reported.
     may_accept: bool,
-    // The next time when a connection may be accepted, after a failure.
-    accepts: Duration,
-    // The next time when the limits are checked.
-    sweeps: Duration,
-    // When the server has to have ended, if it is to end.
-    ends: Option<Duration>,
+    // When connections may be accepted again, after one could not be accepted.
+    accept_at: Duration,
+    // When the limits are checked next.
+    sweep_at: Duration,
+    // When all connections are closed, if the server is to end.
+    end_at: Option<Duration>,
     ghost is_zone: { zone.now ≡ Z.zone },
     ghost is_most: { plan.most ≡ Z.most },
     ghost connected: { (K.state sockets).connected ≡ Z.before.connected + slab_len peers },
@@ -204,9 +206,9 @@ impl<'z, Z: Served, K: Sockets> Connections<'z, Z, K> {
             left: plan.turns,
             plan,
             may_accept: true,
-            accepts: Duration::from_millis(0),
-            sweeps: Duration::from_millis(0),
-            ends: None,
+            accept_at: Duration::from_millis(0),
+            sweep_at: Duration::from_millis(0),
+            end_at: None,
         })
     }
 
@@ -230,18 +232,18 @@ impl<'z, Z: Served, K: Sockets> Connections<'z, Z, K> {
 
     // From now on the server is to end. What the connections have asked by now is still read.
     fn begin_end(&mut self, now: Duration) {
-        if self.ends.is_none() && self.plan.capacity == Capacity::Many {
-            self.ends = Some(after(now, ENDING));
+        if self.end_at.is_none() && self.plan.capacity == Capacity::Many {
+            self.end_at = Some(after(now, ENDING_MILLIS));
             'peers: for key in 0..KEYS {
                 self.mark(key);
             }
         }
     }
 
-    // Whether a connection may wait that can be accepted now.
+    // Whether a connection may be waiting that can be accepted now.
     fn can_accept(&self, now: Duration) -> bool {
         let has_place = self.plan.capacity == Capacity::Many || self.peers.is_empty();
-        self.may_accept && self.left > 0 && has_place && now >= self.accepts
+        self.may_accept && self.left > 0 && has_place && now >= self.accept_at
     }
 
     // How long the next wait may last.
@@ -250,7 +252,7 @@ impl<'z, Z: Served, K: Sockets> Connections<'z, Z, K> {
             return Some(Duration::from_millis(0));
         }
         let is_idle = self.peers.is_empty() && !self.may_accept && self.left > 0;
-        (!is_idle).then_some(Duration::from_millis(SWEEP))
+        (!is_idle).then_some(Duration::from_millis(SWEEP_MILLIS))
     }
 
     fn note_found(&mut self) {
@@ -294,12 +296,12 @@ impl<'z, Z: Served, K: Sockets> Connections<'z, Z, K> {
 
     // The connection that made no progress for the longest time.
     fn oldest(&self) -> Option<usize> {
-        let oldest = self.peers.iter().min_by_key(|(_, peer)| peer.since);
+        let oldest = self.peers.iter().min_by_key(|(_, peer)| peer.progress_at);
         oldest.map(|(key, _)| key)
     }
 
-    // Accepts connections while one may wait, but at most `ACCEPTS`. One that can't be accepted
-    // counts too, and nothing is accepted for some time after it.
+    // Accepts connections while one may be waiting, but at most `ACCEPTS`. One that can't be
+    // accepted counts too, and then nothing is accepted for some time.
     fn accept_some(&mut self, now: Duration) {
         'accepts: for _ in 0..ACCEPTS {
             if !self.can_accept(now) {
@@ -310,15 +312,15 @@ impl<'z, Z: Served, K: Sockets> Connections<'z, Z, K> {
                 Err(Stopped::WouldBlock) => self.may_accept = false,
                 Err(Stopped::Failed) => {
                     self.left = self.left.saturating_sub(1);
-                    self.accepts = after(now, PAUSE);
+                    self.accept_at = after(now, PAUSE_MILLIS);
                     self.sockets.report_refusal();
                 }
             }
         }
     }
 
-    // Accepts a connection, and closes another one if there are too many. Fails, too, if there is no
-    // memory for the connection or it can't be watched.
+    // Accepts a connection, and closes another one if there are too many. Fails, too, if there is
+    // no memory for the connection or it can't be watched.
     fn accept(&mut self, now: Duration) -> Result<(), Stopped> {
         let stream = self.sockets.accept()?;
         let most = self.plan.most;
@@ -370,10 +372,10 @@ impl<'z, Z: Served, K: Sockets> Connections<'z, Z, K> {
 
     // Closes the connections that are late.
     fn sweep(&mut self, now: Duration) {
-        if now < self.sweeps {
+        if now < self.sweep_at {
             return;
         }
-        self.sweeps = after(now, SWEEP);
+        self.sweep_at = after(now, SWEEP_MILLIS);
         'peers: for key in 0..KEYS {
             self.close_if_late(key, now);
         }
@@ -384,7 +386,7 @@ impl<'z, Z: Served, K: Sockets> Connections<'z, Z, K> {
             return;
         };
         let (deadline, fault) = self.deadline(peer);
-        let is_over = self.ends.is_some_and(|ends| now >= ends);
+        let is_over = self.end_at.is_some_and(|end_at| now >= end_at);
         if !is_over && now < deadline {
             return;
         }
@@ -394,20 +396,29 @@ impl<'z, Z: Served, K: Sockets> Connections<'z, Z, K> {
         }
     }
 
-    // When a connection is closed if it makes no progress, and what is then reported.
+    // When a connection is closed if it makes no progress, and what is then reported. A connection
+    // with an incomplete message or an unsent reply has a fault to report; another one is silent.
     fn deadline(&self, peer: &Peer<Z, K::Stream>) -> (Duration, Option<StreamFault>) {
         let fault = peer.lateness();
-        // From then on no message may begin if others wait.
-        let end = after(peer.accepted, LIMIT);
+        let silent = after(peer.progress_at, SILENCE_MILLIS);
+        let late = after(peer.progress_at, PROGRESS_MILLIS);
+        let begin_until = after(peer.accepted_at, BEGIN_MILLIS);
         match (self.plan.capacity, fault) {
-            (Capacity::Many, None) if self.ends.is_some() => (after(peer.since, SILENCE), None),
-            (Capacity::Many, _) => (after(peer.since, LIMIT), fault),
-            (Capacity::One, None) if peer.since == peer.accepted => {
-                (after(peer.since, FIRST), Some(StreamFault::SourceFailed))
+            (Capacity::Many, None) if self.end_at.is_some() => (silent, None),
+            (Capacity::Many, _) => (late, fault),
+            // It has sent nothing yet.
+            (Capacity::One, None) if peer.progress_at == peer.accepted_at => {
+                (
+                    after(peer.accepted_at, FIRST_MILLIS),
+                    Some(StreamFault::SourceFailed),
+                )
             }
-            (Capacity::One, None) => (after(peer.since, SILENCE).min(end), None),
-            (Capacity::One, Some(StreamFault::SourceFailed)) if peer.since >= end => (end, None),
-            (Capacity::One, _) => (after(peer.since, LIMIT).min(after(end, LIMIT)), fault),
+            (Capacity::One, None) => (silent.min(begin_until), None),
+            // Its message began too late.
+            (Capacity::One, Some(StreamFault::SourceFailed)) if peer.progress_at >= begin_until => {
+                (begin_until, None)
+            }
+            (Capacity::One, _) => (late.min(after(begin_until, PROGRESS_MILLIS)), fault),
         }
     }
 }

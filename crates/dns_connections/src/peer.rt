@@ -44,11 +44,10 @@ pub(crate) struct Peer<Z: Served, S: Stream> {
     // Octets received, of which the session has taken the first `taken`.
     input: Vec<u8>,
     taken: usize,
-    // When it was accepted.
-    pub(crate) accepted: Duration,
-    // When it was accepted, or last completed a message or took all its replies.
-    pub(crate) since: Duration,
-    // The end of the input was reported.
+    pub(crate) accepted_at: Duration,
+    // When it last completed a message or took all its replies, or else was accepted.
+    pub(crate) progress_at: Duration,
+    // Whether the end of the input was reported.
     has_ended: bool,
     zone: PhantomData<Z>,
     ghost part: { taken ≤ vec_len input },
@@ -77,8 +76,8 @@ impl<Z: Served, S: Stream> Peer<Z, S> {
             input,
             stream,
             taken: 0,
-            accepted: now,
-            since: now,
+            accepted_at: now,
+            progress_at: now,
             has_ended: false,
             zone: PhantomData,
         })
@@ -128,6 +127,7 @@ impl<Z: Served, S: Stream> Peer<Z, S> {
         if !self.has_pending() {
             match self.receive(buffer) {
                 Ok(0) => return self.end_of_input(),
+                // Then no more can be received before the socket is reported again.
                 Ok(count) => is_dry = count < PIECE && !self.has_ended,
                 Err(Stopped::WouldBlock) => return Ok(Next::Waits),
                 Err(Stopped::Failed) => return Err(StreamFault::SourceFailed),
@@ -136,7 +136,7 @@ impl<Z: Served, S: Stream> Peer<Z, S> {
         let left = self.session.left();
         self.answer(zone, builder);
         if self.session.left() < left {
-            self.since = now;
+            self.progress_at = now;
         }
         if !self.send(now)? || is_dry && !self.has_pending() && self.session.left() > 0 {
             return Ok(Next::Waits);
@@ -194,7 +194,7 @@ impl<Z: Served, S: Stream> Peer<Z, S> {
             }
             match self.send_once() {
                 Ok(0) => break,
-                Ok(_) if self.session.unsent().is_empty() => self.since = now,
+                Ok(_) if self.session.unsent().is_empty() => self.progress_at = now,
                 Ok(_) => {}
                 Err(Stopped::WouldBlock) => return Ok(false),
                 Err(Stopped::Failed) => break,
