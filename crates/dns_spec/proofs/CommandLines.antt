@@ -1,6 +1,6 @@
 -- The arguments of a command line ask for at most one thing: ORIGIN and FILE are the last two
 -- arguments, and the arguments before them determine the rest.
-use Rattle.dns_spec.proofs.Common.{◌≡◌, ℕ, Bool, List, [], ◌∷◌, ◌++◌, length, get_or, codes, refl, ap, ap₂, arith, length-append, list_any, decimal_injective, Octets, octets_equal, Options, ZoneWords, AskToCheck, ServiceAsked, AskToServe}
+use Rattle.dns_spec.proofs.Common.{◌≡◌, ℕ, Bool, List, [], ◌∷◌, ◌++◌, get_or, codes, refl, ap, ap₂, arith, length-append, list_any, decimal_injective, Octets, octets_equal, Options, ZoneWords, AskToCheck, ServiceAsked, AskToServe}
 use Rattle.dns_spec.specs.CommandWords.{SocketAsked, AskAtSocket}
 
 word : ℕ → List Octets → Octets
@@ -10,10 +10,8 @@ last_two : (f g : List Octets) (y z : ZoneWords)
     → f ++ y.origin ∷ y.file ∷ [] ≡ g ++ z.origin ∷ z.file ∷ [] → (f ≡ g) × (y ≡ z)
 unfolding word
 last_two [] [] y z e = (refl, ap (λ ws. record { origin = word 0 ws; file = word 1 ws }) e)
-last_two [] (w ∷ g) y z e =
-    absurd (omega (arith, ap length e, length-append g (z.origin ∷ z.file ∷ [])))
-last_two (v ∷ f) [] y z e =
-    absurd (omega (arith, ap length e, length-append f (y.origin ∷ y.file ∷ [])))
+last_two [] (w ∷ g) y z e = grind (arith, length-append g (z.origin ∷ z.file ∷ []))
+last_two (v ∷ f) [] y z e = grind (arith, length-append f (y.origin ∷ y.file ∷ []))
 last_two (v ∷ f) (w ∷ g) y z e = grind (arith, ap₂, word, (last_two f g y z))
 
 has : Octets → List Octets → Bool

@@ -1,5 +1,5 @@
 -- Data has at most 65,535 octets, so few words spell it.
-use Rattle.dns_spec.proofs.Common.{◌≡◌, ℕ, zero, suc, ◌+◌, ◌*◌, ◌≤◌, Bool, true, false, max, nat_le, ◌&&◌, ◌==◌, List, [], ◌∷◌, length, replicate, Option, Some, None, refl, ap, arith, MatchOption, MatchBool, list_all, flat_map, option_map, and_parts, leb-true, ltb-true, none-some, same_Some, eqb-true, length-append, is_ascii_hexdigit, Octets, DomainName, Field, TypeRow, type_table, row_of, strings, Word, SaysFields, word_fields, SaysTyped, SaysHex, SaysUnknown, hex_octets, is_hex_word, are_strings_alone, is_unknown_mark, Says}
+use Rattle.dns_spec.proofs.Common.{◌≡◌, ℕ, zero, suc, ◌+◌, ◌*◌, ◌≤◌, Bool, true, false, max, nat_le, ◌&&◌, ◌==◌, List, [], ◌∷◌, length, replicate, Option, Some, None, refl, arith, MatchOption, MatchBool, list_all, flat_map, option_map, and_parts, leb-true, ltb-true, none-some, same_Some, eqb-true, length-append, is_ascii_hexdigit, Octets, DomainName, Field, TypeRow, type_table, row_of, strings, Word, SaysFields, word_fields, SaysTyped, SaysHex, SaysUnknown, hex_octets, is_hex_word, are_strings_alone, is_unknown_mark, Says}
 use Rattle.dns_spec.proofs.DataWords.OneFault.{as_many_words}
 use Rattle.dns_spec.proofs.General.Tests.{entry_passes}
 
@@ -20,8 +20,7 @@ hex_length (h ∷ l ∷ text) d e =
         let f : None ≡ Some d = rw digits at e in absurd (none-some d f)
     by_digits true digits None is rest =
         let f : None ≡ Some d = rw (digits, is) at e in absurd (none-some d f)
-    by_digits true digits (Some x) is rest =
-        let few = rest x is in grind (arith, same_Some)
+    by_digits true digits (Some x) is rest = grind arith
 
 word_digits : (w : Word) → is_hex_word w ≡ true → 2 ≤ length w.raw
 word_digits w h = grind (arith, and_parts, ltb-true, eqb-true)
@@ -48,8 +47,7 @@ few_strings zero origin [] d h = omega arith
 few_strings zero origin (w ∷ ws) d h = absurd h
 few_strings (suc k) origin [] d h = omega arith
 few_strings (suc k) origin (w ∷ ws) d (front, back, is, said, h) =
-    let later = few_strings k origin ws back h in
-    omega (arith, later, ap length said.said.3, ap length is, length-append front back)
+    grind (arith, length-append, few_strings k origin ws back h)
 
 few_fields : (k : ℕ) (fs : List Field) (origin : DomainName) (ws : List Word) (d : Octets)
     → nat_le (length fs) 7 ≡ true → length d ≤ 65535 → SaysFields (word_fields k fs) origin ws d

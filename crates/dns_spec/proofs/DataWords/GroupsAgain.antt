@@ -135,10 +135,7 @@ digit_first g gs small = by_cases gs
 
 pub groups_again : (gs : List ℕ) → Groups gs → groups_said (groups_text gs) ≡ Some gs
 groups_again [] small = refl
-groups_again (g ∷ gs) small =
-    let t = digit_first g gs small in
-    ap groups_said t.whole ∙ ap (λ x. group_values (slice_split is_colon x)) (sym t.whole)
-    ∙ ap group_values (parts_of g gs small) ∙ values_of (g ∷ gs) small
+groups_again (g ∷ gs) small = grind (arith, parts_of g gs small, values_of (g ∷ gs) small)
 
 -- the text w in front of what is found around `::`
 abbrev pub with_front : Octets → Octets × Octets → Octets × Octets
@@ -171,8 +168,7 @@ past_groups g (h ∷ gs) x small =
 
 pub no_gap : (gs : List ℕ) → Groups gs → around_gap (groups_text gs) ≡ None
 no_gap [] small = refl
-no_gap (g ∷ gs) small =
-    ap around_gap (sym (append-nil (groups_text (g ∷ gs)))) ∙ past_groups g gs [] small
+no_gap (g ∷ gs) small = cc (append-nil (groups_text (g ∷ gs)), past_groups g gs [] small)
 
 pub gap_after : (gs : List ℕ) (rest : Octets)
     → Groups gs → around_gap (groups_text gs ++ 58 ∷ 58 ∷ rest) ≡ Some (groups_text gs, rest)

@@ -1,5 +1,5 @@
 -- An IPv6 address that is written as text is read as that address again.
-use Rattle.dns_spec.proofs.Common.{◌≡◌, ℕ, zero, suc, ◌+◌, ◌*◌, ◌/◌, ◌%◌, ◌<◌, ◌≤◌, ◌⊎◌, inl, inr, true, false, Some, List, [], ◌∷◌, ◌++◌, length, take, drop, replicate, nat_lt, refl, ◌∙◌, ap, arith, length-drop, cases_Bool, eq-eqb, lt-ltb, ltb-false, length-take-le, if◌then◌else◌, flat_map, bytes_high_first, Octets, ipv6_groups, SaysIpv6, groups_of, groups_text, longest_run, longest_place, ipv6_text}
+use Rattle.dns_spec.proofs.Common.{◌≡◌, ℕ, zero, suc, ◌+◌, ◌*◌, ◌%◌, ◌<◌, ◌≤◌, ◌⊎◌, inl, inr, true, false, Some, List, [], ◌∷◌, ◌++◌, length, take, drop, replicate, nat_lt, refl, ◌∙◌, ap, arith, length-drop, cases_Bool, eq-eqb, lt-ltb, ltb-false, length-take-le, if◌then◌else◌, flat_map, bytes_high_first, Octets, ipv6_groups, SaysIpv6, groups_of, groups_text, longest_run, longest_place, ipv6_text}
 use Rattle.dns_spec.proofs.DomainNames.SmallOctets.{Small, small_head, small_tail}
 use Rattle.dns_spec.proofs.DataWords.GroupsAgain.{Groups, groups_again, no_gap, gap_after}
 use Rattle.dns_spec.proofs.DataWords.ZeroRuns.{longest, around_run, run_inside}

@@ -72,8 +72,7 @@ is_narrow _ = true
 pub form_once : (f : Field) (origin : DomainName) (text d e : Octets)
     → is_narrow f ≡ true → SaysField f origin text d → SaysField f origin text e → d ≡ e
 unfolding is_narrow
-form_once (number k) origin text d e narrow h h' =
-    number_once k text d e (leb-true k 4 narrow) h h'
+form_once (number k) origin text d e narrow h h' = search (number_once, leb-true)
 form_once ipv4 origin text d e narrow h h' = ipv4_once text d e h h'
 form_once ipv6 origin text d e narrow h h' = grind (arith, same_Some)
 form_once domain origin text d e narrow (n, spelled, is) (m, spelled', is') =
@@ -127,8 +126,7 @@ typed_once t origin ws d e h k = by_fields (word_fields_of t (length ws)) refl h
     by_fields : (o : Option (List Field)) → word_fields_of t (length ws) ≡ o → Typed o d
         → Typed o e → d ≡ e
     by_fields None is h k = absurd h
-    by_fields (Some fs) is h k =
-        forms_once fs origin ws d e (narrow_fields t (length ws) fs is) h k
+    by_fields (Some fs) is h k = search (forms_once, narrow_fields)
 
 pub unknown_once : (ws : List Word) (d e : Octets) → SaysUnknown ws d → SaysUnknown ws e → d ≡ e
 unknown_once ws d e h h1 = grind arith

@@ -78,8 +78,7 @@ pub no_data_said : (t : ℕ) (ws : List Word) (origin : DomainName) (k : ℕ) (d
 no_data_said t [] origin k d fault h =
     let short = leb-true _ 65535 (and_parts _ _ h.is_valid).0 in
     typed_not_said t origin [] k h.as_spelled fault h.said short
-no_data_said t (w ∷ ws) origin k d fault h =
-    grind (arith, typed_not_said, leb-true, and_parts)
+no_data_said t (w ∷ ws) origin k d fault h = search (arith, typed_not_said, leb-true)
 
 pub fault_once : (t : ℕ) (ws : List Word) (origin : DomainName) (j k : ℕ)
     → DataFaultIs t ws origin j → DataFaultIs t ws origin k → j ≡ k

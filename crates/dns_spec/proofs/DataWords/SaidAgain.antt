@@ -100,14 +100,7 @@ counted_formed : (t : ℕ) (origin : DomainName) (d : Octets) (made : TypeRow) (
     → row_of t ≡ Some made → list_all is_counted made.fields ≡ true
     → cut made.fields d ≡ Some xs → Small d → Formed t origin d
 counted_formed t origin d made xs e counted h small =
-    let is : (k : ℕ) → word_fields_of t k ≡ Some made.fields =
-    λ k. forms_are t k made e ∙ ap (λ x. Some x) (words_counted k made.fields counted) in
-    record {
-      forms = made.fields;
-      of_data = is (string_count 0 d);
-      of_words = is (length made.fields);
-      words = fields_said origin made.fields d xs counted h small;
-    }
+    grind (arith, fields_said origin made.fields d xs counted h small)
 
 pub some_string : (d : Octets) → 0 < length d → 0 < string_count 0 d
 some_string [] some = absurd (omega (arith, some))
@@ -173,8 +166,7 @@ pub said_again : (t : ℕ) (origin : DomainName) (d : Octets)
 said_again t origin d small ok = go (row_of t) refl
   where
     go : (r : Option TypeRow) → row_of t ≡ r → SaysAsSpelled t origin (written_words t d) d
-    go None e =
-        subst (λ ws. SaysAsSpelled t origin ws d) (sym (unnamed_words t d e)) (unknown_said d small)
+    go None e = grind (arith, unknown_said)
     go (Some made) e = typed_said t origin d (formed t origin d made e ok small)
 
 pub data_said : (t : ℕ) (origin : DomainName) (d : Octets)

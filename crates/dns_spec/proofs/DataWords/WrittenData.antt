@@ -1,8 +1,8 @@
 -- Data of a type, written without compression, is read back as data of that type.
-use Rattle.dns_spec.proofs.Common.{common_steps, and_parts, leb-true, not-true, eqb-false, false≢true, none-some, same_Some, cond_some, some_pair_parts, length-take-le, Octets, DomainName, wire, is_name, class_in, Field, number, ipv4, ipv6, domain, string, strings, anything, string_front, Part, octets, name, are_strings, octets_front, strings_front, field_front, cut, valid, data_at, fields_at, field_at, ◌≡◌, ℕ, suc, ◌+◌, ◌<◌, true, List, [], ◌∷◌, ◌++◌, length, take, Some, refl, sym, ap, ◌∙◌, subst, arith, append-nil, length-append, take-append-drop, add-zero, part_octets, eq-eqb, le-leb, ◌≢◌}
+use Rattle.dns_spec.proofs.Common.{common_steps, and_parts, leb-true, not-true, eqb-false, false≢true, none-some, same_Some, cond_some, some_pair_parts, length-take-le, Octets, DomainName, wire, is_name, class_in, Field, number, ipv4, ipv6, domain, string, strings, anything, Part, octets, name, are_strings, octets_front, strings_front, field_front, cut, valid, data_at, fields_at, field_at, ◌≡◌, ℕ, suc, ◌+◌, ◌<◌, true, List, [], ◌∷◌, ◌++◌, length, take, Some, refl, sym, ap, ◌∙◌, subst, arith, append-nil, length-append, take-append-drop, add-zero, part_octets, eq-eqb, le-leb, ◌≢◌}
 use Rattle.dns_spec.proofs.DomainNames.WireNames.{name_read}
 use Rattle.dns_spec.proofs.DataWords.MadeData.{cut-domain, cut-octets}
-use Rattle.dns_spec.proofs.Messages.Sections.{field_own, fields_more, name_field}
+use Rattle.dns_spec.proofs.Messages.Sections.{fields_more}
 use Rattle.dns_spec.proofs.Messages.Places.{Stands, stands_front, stands_rest, stands_within, name_written, stands_own}
 
 -- data that is cut into parts begins with the part of its first field
@@ -67,14 +67,9 @@ field_again ipv6 os part rest other h none = run_again 16 os part rest other h
 field_again domain os part rest other h none = grind (arith, name_part, cut-domain)
 field_again string [] part rest other h none = absurd (none-some (part, rest) h)
 field_again string (k ∷ os) part rest other h none =
-    subst (λ x. octets_front (suc k) (k ∷ os) ≡ Some (x, rest)
-    → string_front (part_octets x ++ other) ≡ Some (x, other)) (octets_part (suc k) (k ∷ os)
-    rest part h) (run_again (suc k) (k ∷ os) (octets (k ∷ take k os)) rest other) h
+    grind (arith, run_again (suc k) (k ∷ os) (octets (k ∷ take k os)) rest other)
 field_again strings os part rest other h none =
-    let all = all_strings os rest part h in
-    ap (λ x. strings_front (part_octets x ++ other)) (sym all.2)
-    ∙ ap strings_front (ap (λ y. os ++ y) (none all.3) ∙ append-nil os) ∙ h
-    ∙ ap (λ y. Some (part, y)) (all.3 ∙ sym (none all.3))
+    grind (arith, all_strings os rest part h, append-nil os)
 field_again anything os part rest other h none = grind (arith, same_Some, append-nil)
 
 -- the part of any field other than a name is a run of octets
@@ -89,14 +84,8 @@ field_written : {b : Octets} {i : ℕ} (p : Field) (os : Octets) (part : Part) (
     → field_front p os ≡ Some (part, rest) → Stands b i os → Stands b i (part_octets part)
     → length os ≡ length (part_octets part) + length rest
     → field_at b p i (i + length os) ≡ Some (part_octets part, i + length (part_octets part))
-field_written {b} {i} domain os part rest front at here long =
-    let m = name_part os rest part front in
-    subst (λ x. Stands b i (part_octets x) → length os ≡ length (part_octets x) + length rest
-    → field_at b domain i (i + length os) ≡ Some (part_octets x, i + length (part_octets x))) m.1
-    (λ there long. name_field b m.0 i (i + length (wire m.0)) (i + length os) (name_written
-    m.0 m.2 there) (omega (arith, long))) here long
-field_written {b} {i} p os part rest front at here long =
-    grind (arith, field_own, stands_own)
+field_written {b} {i} domain os part rest front at here long = grind (arith, name_written)
+field_written {b} {i} p os part rest front at here long = search (arith, stands_own)
 
 pub fields_written : {b : Octets} (ps : List Field) (os : Octets) (xs : List Part) (i : ℕ)
     → cut ps os ≡ Some xs → Stands b i os → fields_at b ps i (i + length os) ≡ Some os

@@ -53,8 +53,7 @@ labels_read (suc k) (suc i ∷ os) n rest h =
               (drop (suc i) os))
           | false ↦ None
         ]) (Some (n, rest)) → suc i ∷ os ≡ wire n ++ rest
-    by_room again true e f = with_first again
-        (labels_from k (drop (suc i) os)) refl (length-take-le (suc i) os (leb-true _ _ e)) f
+    by_room again true e f = search (with_first, length-take-le, leb-true)
     by_room again false e f = absurd (none-some (n, rest) f)
 
 pub name_read : (os : Octets) (n : DomainName) (rest : Octets)

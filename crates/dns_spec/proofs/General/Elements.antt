@@ -1,7 +1,7 @@
 -- What holds for each element of a list, and membership in lists.
 use mathlib.Core.List.{reverse_aux}
 pub use Rattle.dns_spec.specs.Lists.{Among}
-use Rattle.dns_spec.proofs.Common.{All, List, [], ap, arith, drop, get_or, inl, inr, length, map, refl, subst, suc, sym, take, zero, ℕ, ◌++◌, ◌<◌, ◌∷◌, ◌≡◌, ◌⊎◌, AllByRecursion, Contains, flat_map, IsPermutation, get_or_default, flat_map-cons, All-contains, Contains-permutation, All-from_recursion, map_push, reverse, reverse-append, ◌∙◌}
+use Rattle.dns_spec.proofs.Common.{All, List, [], ap, arith, drop, get_or, inl, inr, length, map, refl, subst, suc, sym, take, zero, ℕ, ◌++◌, ◌<◌, ◌∷◌, ◌≡◌, ◌⊎◌, AllByRecursion, Contains, flat_map, get_or_default, flat_map-cons, All-contains, All-from_recursion, map_push, reverse, reverse-append, ◌∙◌}
 
 -- `AllByRecursion P` is a proof of P for each element: the trivial P, and a P that always holds
 pub each_any : {X : Type 0} (xs : List X) → AllByRecursion (λ _. Unit {0}) xs
@@ -196,9 +196,7 @@ among_held a xs ys held m =
 
 pub held_among : {X : Type 0} (xs ys : List X)
     → ((a : X) → Among a xs → Among a ys) → All (Contains ys) xs
-held_among xs ys forth =
-    All-from_recursion (Contains ys) xs
-    (each_among (Contains ys) xs (λ a m. among_contains a ys (forth a m)))
+held_among xs ys forth = search (All-from_recursion, each_among, among_contains)
 
 pub map_reverse : {X Y : Type 0} (f : X → Y) (xs : List X) → map f (reverse xs) ≡ reverse (map f xs)
 map_reverse f [] = refl

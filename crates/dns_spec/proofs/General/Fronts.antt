@@ -1,7 +1,7 @@
 -- The first elements of a list, and the rest.
 use Rattle.std.proofs.lemmas.List.Sums.{prefix_len_passes, prefix_len_stops}
 use Rattle.std.specs.List.Sorted.{IsPartitionPoint}
-use Rattle.dns_spec.proofs.Common.{Bool, List, [], ap, ap₂, arith, cond, drop, false, filter, get_or, length, length-drop, length-take, not, refl, subst, suc, sym, take, true, zero, ℕ, ◌+◌, ◌-◌, ◌∙◌, ◌∷◌, ◌≡◌, ◌≤◌, AllByRecursion, prefix_len, IsPartitionedBy, take-add, take-length, false_from_ne_true, false≢true, get_or-drop, get_or-take, take-append-drop, filter-append, prefix_len-le-length, parts, ◌++◌, take-append-le, take_at}
+use Rattle.dns_spec.proofs.Common.{Bool, List, [], ap, ap₂, arith, cond, drop, false, filter, get_or, length, length-drop, length-take, not, refl, suc, sym, take, true, zero, ℕ, ◌+◌, ◌-◌, ◌∙◌, ◌∷◌, ◌≡◌, ◌≤◌, AllByRecursion, prefix_len, IsPartitionedBy, take-add, take-length, false_from_ne_true, false≢true, get_or-drop, get_or-take, take-append-drop, filter-append, prefix_len-le-length, parts, ◌++◌, take-append-le, take_at}
 use Rattle.dns_spec.proofs.General.Elements.{each_weaker, each_from_get}
 use Rattle.dns_spec.proofs.General.Filters.{filter_all, filter_none}
 
@@ -64,10 +64,7 @@ same_fronts_ends (suc k) (suc j) (x ∷ a) (y ∷ b) h e d = ap₂ (λ z zs. z �
 pub take_last : (k : ℕ) (xs : List ℕ)
     → k ≤ length xs → take k (drop (length xs - k) xs) ≡ drop (length xs - k) xs
 take_last k xs long =
-    let all : length (drop (length xs - k) xs) ≡ k =
-    omega (arith, length-drop (length xs - k) xs, long) in
-    subst (λ j. take j (drop (length xs - k) xs) ≡ drop (length xs - k) xs) all
-    (take-length (drop (length xs - k) xs))
+    grind (arith, length-drop (length xs - k) xs, take-length (drop (length xs - k) xs))
 
 -- a prefix of at most n elements is a prefix of the first n elements
 pub looked_at : {X : Type 0} (n : ℕ) (front more : List X)

@@ -1,6 +1,6 @@
 -- Options, and what is computed from them.
 use Rattle.std.specs.Option.{ok_or}
-use Rattle.dns_spec.proofs.Common.{None, Ok, Option, Some, ap, arith, refl, ◌∙◌, ◌≡◌, is_some, option_and_then, option_map, MatchOption, none-some, same_Some, List, cons_option, ◌++◌}
+use Rattle.dns_spec.proofs.Common.{None, Ok, Option, Some, arith, refl, ◌≡◌, is_some, option_and_then, option_map, MatchOption, none-some, same_Some, List, cons_option, ◌++◌}
 
 pub map_some : {X Y P : Type 0} (f : X → Y) (o : Option X) (y : Y)
     → option_map f o ≡ Some y → ((x : X) → o ≡ Some x → f x ≡ y → P) → P

@@ -20,12 +20,9 @@ then_equal Greater = refl
 
 pub less_by : (a b k : ℕ)
     → k ≤ a → k ≤ b → (a ≡ b) ⊎ ((a < b) ⊎ (b < a)) → nat_cmp (a - k) (b - k) ≡ nat_cmp a b
-less_by a b k p q (inl e) =
-    sym (nat_cmp_is (a - k) (b - k) Equal (omega arith)) ∙ nat_cmp_is a b Equal e
-less_by a b k p q (inr (inl h)) =
-    sym (nat_cmp_is (a - k) (b - k) Less (omega arith)) ∙ nat_cmp_is a b Less h
-less_by a b k p q (inr (inr h)) =
-    sym (nat_cmp_is (a - k) (b - k) Greater (omega arith)) ∙ nat_cmp_is a b Greater h
+less_by a b k p q (inl e) = grind arith
+less_by a b k p q (inr (inl h)) = grind arith
+less_by a b k p q (inr (inr h)) = grind arith
 
 pub cmp_self : {A : Type 0} (R : A → A → Ordering)
     → ((x : A) → R x x ≡ Equal) → (xs : List A) → slice_cmp R xs xs ≡ Equal

@@ -1,5 +1,5 @@
 -- Lists in order: a relation holds for each element and each element after it.
-use Rattle.dns_spec.proofs.Common.{Bool, List, Ordering, [], ap, arith, cond, drop, eqb, false, filter, inl, inr, is_gt, nat_lt, not, refl, subst, suc, sym, true, zero, ℕ, ◌<◌, ◌||◌, ◌∙◌, ◌∷◌, ◌≡◌, ◌≤◌, ◌⊎◌, IsTotalOrder, AllByRecursion, list_any, IsNonDecreasingBy, IsPartitionedBy, cases_lt, eqb-false, eqb-true, false≢true, ltb-false, ltb-true, ne_eqb, upto, insert_by, sort_by}
+use Rattle.dns_spec.proofs.Common.{Bool, List, Ordering, [], ap, arith, cond, drop, eqb, false, filter, inl, inr, is_gt, nat_lt, not, refl, subst, suc, sym, true, zero, ℕ, ◌<◌, ◌||◌, ◌∙◌, ◌∷◌, ◌≡◌, ◌≤◌, ◌⊎◌, IsTotalOrder, AllByRecursion, list_any, IsNonDecreasingBy, IsPartitionedBy, cases_lt, eqb-false, false≢true, ltb-false, ne_eqb, upto, insert_by, sort_by}
 use Rattle.dns_spec.proofs.General.Elements.{each_weaker, each_get, each_from_get, each_both}
 use Rattle.dns_spec.proofs.General.Filters.{each_filter}
 use Rattle.dns_spec.proofs.General.Tests.{none_pass, first_passes}
@@ -30,8 +30,7 @@ pub parted : {X : Type 0} (p : X → Bool) (xs : List X)
     → Pairs (λ x y. p y ≡ true → p x ≡ true) xs → IsPartitionedBy p xs
 parted p [] h i j d l m e = absurd (omega arith)
 parted p (x ∷ xs) h zero zero d l m e = e
-parted p (x ∷ xs) h zero (suc j) d l m e =
-    each_get (λ y. p y ≡ true → p x ≡ true) xs j d h.0 (omega arith) e
+parted p (x ∷ xs) h zero (suc j) d l m e = grind (arith, each_get)
 parted p (x ∷ xs) h (suc i) zero d l m e = absurd (omega arith)
 parted p (x ∷ xs) h (suc i) (suc j) d l m e = parted p xs h.1 i j d (omega arith) (omega arith) e
 
@@ -104,8 +103,7 @@ module _ {X : Type 0} (n : X → ℕ) (t : ℕ) where
           ≡ first_passes (λ x. eqb (n x) t) (filter (λ x. not (nat_lt (n x) t)) xs)
           → (c || list_any (λ x. eqb (n x) t) xs) ≡ first_passes (λ x. eqb (n x) t) (cond (not b)
           (x ∷ filter (λ x. not (nat_lt (n x) t)) xs) (filter (λ x. not (nat_lt (n x) t)) xs))
-      go true true l e r =
-          let below = ltb-true _ _ l in let level = eqb-true _ _ e in absurd (omega arith)
+      go true true l e r = grind arith
       go true false l e r = r
       go false true l e r = sym e
       go false false l e r =

@@ -124,8 +124,7 @@ module _ {X : Type 0} (cmp : X → X → Ordering) (order : IsTotalOrder cmp)
       heads : (x ≡ y) ⊎ Among x ys → (y ≡ x) ⊎ Among y xs → x ≡ y
       heads (inl e) k = e
       heads (inr m) (inl e) = sym e
-      heads (inr m) (inr k) = absurd (neither x y
-          (each_at (λ z. cmp x z ≡ Less) y xs r.0 k) (each_at (λ z. cmp y z ≡ Less) x ys s.0 m))
+      heads (inr m) (inr k) = grind (arith, each_at)
 
       after_y : (a : X) → (a ≡ y) ⊎ Among a ys → (a ≡ y → ⊥) → Among a ys
       after_y a (inl p) n = absurd (n p)
@@ -157,8 +156,7 @@ sort_risen {X} cmp (x ∷ xs) r = ap (insert_by cmp x) (sort_risen cmp xs r.1) �
     first : (x : X) (xs : List X) → AllByRecursion (λ y. cmp x y ≡ Less) xs
         → insert_by cmp x xs ≡ x ∷ xs
     first x [] e = refl
-    first x (y ∷ ys) e =
-        ap (λ (o : Ordering). cond (is_gt o) (y ∷ insert_by cmp x ys) (x ∷ y ∷ ys)) e.0
+    first x (y ∷ ys) e = grind arith
 
 -- sorting permutes the elements
 pub permutation_insert : {X : Type 0} (cmp : X → X → Ordering) (x : X) (ys : List X)

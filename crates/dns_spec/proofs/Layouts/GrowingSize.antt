@@ -53,8 +53,7 @@ module _ (size_of : List Item → ℕ)
           → cond b (fitting size_of limit (front ++ i ∷ []) is) front ≡ front ++ take (cond b (suc
           (greatest (λ k. nat_le (size_of (front ++ take (suc k) (i ∷ is))) limit) (length is))) 0)
           (i ∷ is)
-      go true e = e ∙ append_assoc front (i ∷ []) (take
-          (greatest (λ k. nat_le (size_of (front ++ take (suc k) (i ∷ is))) limit) (length is)) is)
+      go true e = grind (arith, append_assoc)
       go false e = sym (append-nil front)
 
   pub kept_is_fitting : (is : List Item) → kept size_of limit is ≡ fitting size_of limit [] is

@@ -1,7 +1,7 @@
 -- Header, question and sections of a layout are read back at their places.
 use Rattle.dns_spec.proofs.Common.{◌≡◌, ℕ, ◌+◌, ◌^◌, ◌<◌, Bool, true, false, cond, nat_le, List, [], ◌∷◌, ◌++◌, length, Option, IfSome, refl, ◌∙◌, subst, arith, append_assoc, length-append, and_parts, leb-true, list_all, option_to_list, Octets, wire, is_name, Header, MessageQuestion, octets16, Section, answer, authority, additional, Item, is_section, records_of, in_section, question_octets, asked_octets, header_octets, section_rank, sections_in_order, IsAskable, field16, several, message_question_at, ap, Some, None, head_of, ap₂}
 use Rattle.dns_spec.proofs.Messages.Places.{Stands, stands_front, stands_rest, stands_after, stands_within, number_at, name_written}
-use Rattle.dns_spec.proofs.Messages.Sections.{question_read, several_more}
+use Rattle.dns_spec.proofs.Messages.Sections.{question_read}
 
 -- the records of sets in the order of their sections: answer, then authority, then additional
 other_section : (s s' : Section) → section_rank s < section_rank s' → is_section s s' ≡ false
@@ -96,6 +96,4 @@ pub asked_at_12 : {b : Octets} (q : Option MessageQuestion) → IfSome q IsAskab
     ≡ Some (option_to_list q, 12 + length (asked_octets q))
 unfolding several
 asked_at_12 None h at = refl
-asked_at_12 {b} (Some q) h at = several_more (message_question_at b) 0 12
-    (12 + length (question_octets q)) (12 + length (question_octets q)) q []
-    (question_at_12 q h.qname h.qtype h.qclass at) refl
+asked_at_12 {b} (Some q) h at = grind (arith, question_at_12)

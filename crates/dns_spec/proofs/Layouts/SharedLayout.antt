@@ -279,8 +279,7 @@ spells_where b h q items room ok counts writable whole =
         → several (message_record_at b) (length (map message_record rs)) i
         ≡ Some (map message_record rs, e)
         → several (message_record_at b) k i ≡ Some (map message_record rs, e)
-    counted rs i e is read = ap (λ n. several (message_record_at b) n i)
-        (is ∙ sym (length-map rs message_record)) ∙ read
+    counted rs i e is read = grind (arith, length-map)
 
 -- there are no more records than octets
 section_bound : (s : Section) (is : List Item) → length (in_section s is) ≤ length (records_of is)

@@ -1,6 +1,6 @@
 -- A name that shares a suffix with an earlier name is read back. A suffix of it that no earlier
 -- name has begins at the place that `place_of` gives for later names.
-use Rattle.dns_spec.proofs.Common.{◌≡◌, ℕ, ◌+◌, ◌-◌, ◌/◌, ◌%◌, ◌<◌, ◌≤◌, Bool, true, false, cond, nat_le, ◌⊎◌, inl, inr, List, [], ◌∷◌, ◌++◌, length, take, drop, Option, None, Some, refl, sym, ap, ap₂, ◌∙◌, subst, arith, append_assoc, length-append, take-append-drop, drop_at, and_parts, and_from, le-leb, leb-true, false≢true, none-some, same_Some, cond_some, list_all, Octets, DomainName, wire, is_label, is_name, names_equal, last_labels, RunAt, ends, goes_on, jumps, reach, pointer, Placed, has_suffix, suffix_place, place_of, reached, shared_place, shared_octets, octets_by, name_at}
+use Rattle.dns_spec.proofs.Common.{◌≡◌, ℕ, ◌+◌, ◌-◌, ◌/◌, ◌%◌, ◌<◌, ◌≤◌, Bool, true, false, cond, nat_le, ◌⊎◌, inl, inr, List, [], ◌∷◌, ◌++◌, length, take, drop, Option, None, Some, refl, sym, ap, ap₂, ◌∙◌, subst, arith, append_assoc, length-append, take-append-drop, drop_at, and_parts, and_from, le-leb, leb-true, none-some, same_Some, cond_some, list_all, Octets, DomainName, wire, is_label, is_name, names_equal, last_labels, RunAt, ends, goes_on, jumps, reach, pointer, Placed, has_suffix, suffix_place, place_of, reached, shared_place, shared_octets, octets_by, name_at}
 use Rattle.dns_spec.proofs.Messages.Places.{Stands, stands_front, stands_rest, stands_after, stands_within, stands_get, stands_take, label_parts}
 use Rattle.dns_spec.proofs.Messages.NameReading.{name_computed}
 use Rattle.dns_spec.proofs.DomainNames.NameLaws.{names_equal-decides}
@@ -37,8 +37,7 @@ place_again (m ∷ ms) n s h e = go (has_suffix m.0 s) refl e (place_again ms n 
   where
     other : (t : Bool) → has_suffix m.0 n ≡ t → has_suffix m.0 s ≡ false
         → place_of ms n ≡ None → cond t (Some (suffix_place m n)) (place_of ms n) ≡ None
-    other true p q f =
-        absurd (false≢true (sym q ∙ suffix_to m.0 s (suffix_again m.0 n s (suffix_from m.0 n p) h)))
+    other true p q f = grind (arith, suffix_to, suffix_again, suffix_from)
     other false p q f = f
 
     go : (t : Bool) → has_suffix m.0 s ≡ t → cond t (Some (suffix_place m s)) (place_of ms s) ≡ None

@@ -58,14 +58,8 @@ module _ (find : Lookup) (lawful : IsLawful find) where
           ≤ length (elim y as (λ _. Octets)
           [ None ↦ length l ∷ (l ++ octets_by find ks n) | Some p ↦ pointer p ])
       go (Some p) (Some o) f g h = omega arith
-      go (Some p) None f g h =
-          omega (arith, length-append l (octets_by find ks n), name_some find ks n)
-      go None None f g h = omega (
-        arith,
-        h,
-        length-append l (octets_by place_of ms n),
-        length-append l (octets_by find ks n),
-      )
+      go (Some p) None f g h = grind (arith, length-append, name_some)
+      go None None f g h = grind (arith, length-append)
       go None (Some o) f g h = absurd (false≢true
           (sym (ap is_some f) ∙ found_again ms ks (l ∷ n) e (lawful ks (l ∷ n) o g)))
 

@@ -93,10 +93,8 @@ same_step : (known known' : ℕ → Option (DomainName × ℕ)) (b : Octets) (s 
     → Alike s known known' → ((j : ℕ) → i < j → run known b s r j ≡ run known' b s r' j)
     → (step : RunStep) → at_step known b s r i step ≡ at_step known' b s r' i step
 same_step known known' b s r r' i a again run_end = refl
-same_step known known' b s r r' i a again (run_label k) =
-    ap (option_map (with_label (take k (drop (i + 1) b)))) (again (i + 1 + k) (omega arith))
-same_step known known' b s r r' i a again (run_pointer p) =
-    same_jump known known' s i p a (place_for s p)
+same_step known known' b s r r' i a again (run_label k) = grind arith
+same_step known known' b s r r' i a again (run_pointer p) = grind arith
 same_step known known' b s r r' i a again unlawful = refl
 
 pub same_run : (known known' : ℕ → Option (DomainName × ℕ)) (b : Octets) (s r r' i : ℕ) → Alike
@@ -123,8 +121,7 @@ complete : {b : Octets} {s i e : ℕ} {n : DomainName} → RunAt b s i n e
     → (k r : ℕ) → s ≤ k → length b - i ≤ r → run (runs_before b k) b s r i ≡ Some (n, e)
 complete {b} {s} (ends i e) k zero h l = absurd (omega (arith, slice_get_within b i 0 e))
 complete {b} {s} (ends i e) k (suc r) h l = step_root (runs_before b k) b s r i e
-complete {b} {s} (goes_on i m w n e at pos low inside is rest) k zero h l =
-    absurd (omega (arith, slice_get_within b i m at))
+complete {b} {s} (goes_on i m w n e at pos low inside is rest) k zero h l = absurd (omega arith)
 complete {b} {s} (goes_on i m w n e at pos low inside is rest) k (suc r) h l =
     step_label (runs_before b k) b s r i m at pos low inside
     ∙ ap (option_map (with_label (take m (drop (i + 1) b)))) (complete rest k r h (omega arith))
@@ -171,12 +168,8 @@ sound_step : (known : ℕ → Option (DomainName × ℕ)) (b : Octets) → Truth
 sound_step known b t s r i n e again run_end at is =
     grind (arith, some_pair_parts, subst₂, RunAt, ends)
 sound_step known b t s r i n e again (run_label k) (at, pos, low, inside) is =
-    let l = take k (drop (i + 1) b) in
-    let q = labelled_parts l (run known b s r (i + 1 + k)) n e is in
-    subst (λ x. RunAt b s i x e) q.2
-    (goes_on i k l q.0 e at pos low inside refl (again (i + 1 + k) q.0 e q.1))
-sound_step known b t s r i n e again (run_pointer p) at is =
-    sound_jump known b t s i p n e at (place_for s p) is
+    grind (arith, goes_on)
+sound_step known b t s r i n e again (run_pointer p) at is = grind (arith, sound_jump)
 sound_step known b t s r i n e again unlawful at is = absurd (none-some (n, e) is)
 
 sound_run : (known : ℕ → Option (DomainName × ℕ)) (b : Octets) → Truthful b known

@@ -1,8 +1,7 @@
 -- Octets that spell no message have one fault.
-use Rattle.dns_spec.proofs.Common.{◌≡◌, ℕ, zero, suc, ◌+◌, ◌<◌, ◌≤◌, ◌&&◌, Bool, true, false, List, [], ◌∷◌, ◌++◌, length, take, drop, nat_le, slice_get, Option, Some, None, refl, sym, ◌∙◌, ap, ap₂, subst, subst₂, arith, same_Some, false≢true, MatchOption, MatchBool, Octets, DomainName, is_name, Field, number, ipv4, ipv6, domain, string, strings, anything, name_at, field16, field_at, several, message_question_at, message_record_at}
+use Rattle.dns_spec.proofs.Common.{◌≡◌, ℕ, zero, suc, ◌+◌, ◌<◌, ◌≤◌, Bool, true, false, List, [], ◌∷◌, ◌++◌, length, take, drop, nat_le, slice_get, Option, Some, None, refl, sym, ◌∙◌, ap₂, subst, subst₂, arith, same_Some, MatchOption, MatchBool, Octets, DomainName, Field, number, ipv4, ipv6, domain, string, strings, anything, field16, field_at, several, message_question_at}
 use Rattle.dns_spec.specs.NamesInMessages.{pointer_place}
-use Rattle.dns_spec.specs.Reading.{data_fields}
-use Rattle.dns_spec.specs.MessageFaults.{step_fault, RunFault, stopped, too_long, labelled, pointed, NameFault, QuestionFault, FieldFault, FieldsFault, RestFault, RecordFault, SeveralFault, RecordsFault, MessageFault}
+use Rattle.dns_spec.specs.MessageFaults.{step_fault, RunFault, stopped, too_long, labelled, pointed, QuestionFault, FieldFault, FieldsFault, RestFault, RecordFault, SeveralFault, RecordsFault, MessageFault}
 
 -- at a label that fits, or at a valid pointer, no run stops
 label_stops : (b : Octets) (s i k f : ℕ) → slice_get b i ≡ Some k → 0 < k → k < 64
@@ -34,8 +33,7 @@ run_once (too_long i k l at some short within is long)
     (too_long _ j m at' some' short' within' is' long') = refl
 run_once {b} {n} {s} (too_long i k l at some short within is long)
     (labelled _ j m g at' some' short' within' is' ok more) =
-    let same = label_again b n s i k j g l m at at' is is' in
-    absurd (false≢true (sym long ∙ ap (λ x. is_name (n ++ x ∷ [])) (sym same.1) ∙ ok))
+    grind arith
 run_once (too_long i k l at some short within is long)
     (pointed _ o o' p g at' high at'' is' from before more) =
     absurd (omega (arith, same_Some k o (sym at ∙ at'), short, high))
@@ -43,8 +41,7 @@ run_once {b} {n} {s} (labelled i k l f at some short within is ok more) (stopped
     absurd (label_stops b s i k g at some short within e pos)
 run_once {b} {n} {s} (labelled i k l f at some short within is ok more)
     (too_long _ j m at' some' short' within' is' long) =
-    let same = label_again b n s i k j f l m at at' is is' in
-    absurd (false≢true (sym long ∙ ap (λ x. is_name (n ++ x ∷ [])) same.1 ∙ ok))
+    grind arith
 run_once {b} {n} {s} (labelled i k l f at some short within is ok more)
     (labelled _ j m g at' some' short' within' is' ok' more') =
     let same = label_again b n s i k j f l m at at' is is' in
@@ -82,13 +79,11 @@ same_number : (k f g : ℕ) → f ≡ k → g ≡ k → f ≡ g
 same_number k f g e e' = e ∙ sym e'
 
 question_once : (b : Octets) (i f g : ℕ) → QuestionFault b i f → QuestionFault b i g → f ≡ g
-question_once b i f g =
-    matched_once (NameFault b i) (λ _ f. f ≡ 1) (name_at b i) f g run_once (λ _. same_number 1 f g)
+question_once b i f g = grind (arith, run_once)
 
 field_once : (b : Octets) (p : Field) (i f g : ℕ) → FieldFault b p i f → FieldFault b p i g
     → f ≡ g
-field_once b domain i f g =
-    matched_once (NameFault b i) (λ _ f. f ≡ 5) (name_at b i) f g run_once (λ _. same_number 5 f g)
+field_once b domain i f g = grind (arith, run_once)
 field_once b (number k) i f g = same_number 5 f g
 field_once b ipv4 i f g = same_number 5 f g
 field_once b ipv6 i f g = same_number 5 f g
@@ -104,17 +99,10 @@ fields_once b (p ∷ ps) i e f g =
     (field_once b p i f g) (λ r. fields_once b ps r.1 e f g)
 
 rest_once : (b : Octets) (j f g : ℕ) → RestFault b j f → RestFault b j g → f ≡ g
-rest_once b j f g =
-    let fields = data_fields (field16 b j) (field16 b (j + 2)) in
-    let end : ℕ = j + 10 + field16 b (j + 8) in
-    tested_once (λ f. FieldsFault b fields (j + 10) end f) (λ f. f ≡ 1)
-    (nat_le (j + 10) (length b) && nat_le end (length b)) f g
-    (fields_once b fields (j + 10) end f g) (same_number 1 f g)
+rest_once b j f g = grind (arith, fields_once)
 
 record_once : (b : Octets) (i f g : ℕ) → RecordFault b i f → RecordFault b i g → f ≡ g
-record_once b i f g =
-    matched_once (NameFault b i) (λ r f. RestFault b r.1 f) (name_at b i) f g run_once
-    (λ r. rest_once b r.1 f g)
+record_once b i f g = grind (arith, run_once, rest_once)
 
 several_once : {X : Type 0} (read : ℕ → Option (X × ℕ)) (Fault : ℕ → ℕ → Type 0)
     → ((i f g : ℕ) → Fault i f → Fault i g → f ≡ g) → (k i f g : ℕ)
@@ -126,11 +114,7 @@ several_once read Fault one (suc k) i f g =
 
 records_once : (b : Octets) (k : ℕ) (Rest : ℕ → ℕ → Type 0) → ((i f g : ℕ) → Rest f i → Rest g i
     → f ≡ g) → (i f g : ℕ) → RecordsFault b k f (Rest f) i → RecordsFault b k g (Rest g) i → f ≡ g
-records_once b k Rest one i f g =
-    matched_once (SeveralFault (message_record_at b) (RecordFault b) k i) (λ r f. Rest f r.1)
-    (several (message_record_at b) k i) f g
-    (several_once (message_record_at b) (RecordFault b) (record_once b) k i f g)
-    (λ r. one r.1 f g)
+records_once b k Rest one i f g = grind (arith, several_once, record_once)
 
 pub message_once : (b : Octets) (f g : ℕ) → MessageFault b f → MessageFault b g → f ≡ g
 message_once b f g =

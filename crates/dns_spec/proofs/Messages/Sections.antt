@@ -1,5 +1,5 @@
 -- Questions, records and fields of data that are read one after another.
-use Rattle.dns_spec.proofs.Common.{◌≡◌, ℕ, suc, ◌+◌, ◌-◌, ◌≤◌, ◌≢◌, List, [], ◌∷◌, ◌++◌, length, take, drop, Option, Some, option_map, refl, ap, ◌∙◌, arith, le-leb, Octets, wire, Field, domain, Part, part_octets, field_front, MessageQuestion, MessageRecord, DnsMessage, fields_at, field_at, field16, field32, data_at, several, message_question_at, message_record_at, message_at, eq-eqb, data_fields, and_from, nat_le, if◌then◌else◌, None, name_at, head_of, DomainName}
+use Rattle.dns_spec.proofs.Common.{◌≡◌, ℕ, suc, ◌+◌, ◌-◌, ◌≤◌, ◌≢◌, List, [], ◌∷◌, ◌++◌, length, take, drop, Option, Some, option_map, refl, arith, le-leb, Octets, wire, Field, domain, Part, part_octets, field_front, MessageQuestion, MessageRecord, DnsMessage, fields_at, field_at, field16, field32, data_at, several, message_question_at, message_record_at, message_at, eq-eqb, data_fields, name_at, head_of, DomainName}
 use Rattle.dns_spec.proofs.General.Options.{and_then_some}
 
 module _ {X : Type 0} (read : ℕ → Option (X × ℕ)) where
@@ -40,10 +40,7 @@ module _ (b : Octets) where
 
   pub data_read : (t c i e : ℕ) (d : Octets) → i ≤ e → e ≤ length b
       → fields_at b (data_fields t c) i e ≡ Some d → data_at b t c i e ≡ Some d
-  data_read t c i e d ordered within fields =
-      ap (λ test. if test then fields_at b (data_fields t c) i e else None)
-      (and_from (nat_le i e) (nat_le e (length b)) (le-leb i e ordered) (le-leb e (length b) within))
-      ∙ fields
+  data_read t c i e d ordered within fields = grind arith
 
   -- a question, a record, and the message
   pub question_read : (i j : ℕ) (q : MessageQuestion) → name_at b i ≡ Some (q.qname, j)

@@ -71,10 +71,8 @@ spelled_once : (origin : DomainName) (text : Octets) (n m : DomainName) → list
     → list_all is_label m ≡ true → TextSpells origin text n → TextSpells origin text m → n ≡ m
 unfolding ends
 spelled_once origin text [] [] all all' h k = refl
-spelled_once origin text [] (l ∷ m) all all' h k =
-    absurd (no_labels [] text [] origin l m h refl all' k)
-spelled_once origin text (l ∷ n) [] all all' h k =
-    absurd (no_labels [] text [] origin l n k refl all h)
+spelled_once origin text [] (l ∷ m) all all' h k = search no_labels
+spelled_once origin text (l ∷ n) [] all all' h k = search no_labels
 spelled_once origin text (l ∷ n) (l' ∷ m) all all' (inl (h, e)) (inl (k, f)) =
     ap₂ (λ z zs. z ∷ zs) (label_once text l [] l' [] h k refl refl).0 (e ∙ sym f)
 spelled_once origin text (l ∷ n) (l' ∷ m) all all' (inl (h, e)) (inr (others, k, f)) =

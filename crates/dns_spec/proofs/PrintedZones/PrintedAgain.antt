@@ -1,6 +1,6 @@
 -- The canonical text of a zone is its own canonical text, and zones with the same canonical text
 -- contain the same records.
-use Rattle.dns_spec.proofs.Common.{◌≡◌, ◌≤◌, ◌↔◌, ◌<◌, IsTrue, All, List, [], ◌∷◌, length, sym, ap, ◌∙◌, subst, arith, is_eq, false≢true, IsPermutation, Octets, DomainName, folded, ResourceRecord, HoldSameRecords, ZoneContents, records_equal, distinct, zone_of, record_order, most_octets, Meaning, records, fault_at, Means, most_records, IsReadRecord, HasZoneType, printed_records, zone_text, Fault, faults, IsPermutation-trans, IsPermutation-sym, Contains-permutation, Options, Report, report_of_faults, Reports, recursion_from_All, All-from_recursion}
+use Rattle.dns_spec.proofs.Common.{◌≡◌, ◌≤◌, ◌↔◌, ◌<◌, IsTrue, All, List, [], ◌∷◌, length, sym, ap, ◌∙◌, subst, arith, is_eq, IsPermutation, Octets, DomainName, folded, ResourceRecord, HoldSameRecords, ZoneContents, records_equal, distinct, zone_of, record_order, most_octets, Meaning, records, fault_at, Means, most_records, IsReadRecord, HasZoneType, printed_records, zone_text, Fault, faults, IsPermutation-trans, IsPermutation-sym, Contains-permutation, Options, Report, report_of_faults, Reports, recursion_from_All, All-from_recursion}
 use Rattle.dns_spec.proofs.Records.RecordOrder.{record_order_total, record_ties, LowerOwner, one_record}
 use Rattle.dns_spec.proofs.ZoneTexts.OneMeaning.{meaning_once}
 use Rattle.dns_spec.proofs.PrintedZones.PrintedZone.{printed_moves, zone_means}
@@ -12,9 +12,7 @@ use Rattle.dns_spec.proofs.General.Sorted.{each_distinct, distinct_among, among_
 -- removing duplicates and printing keep the records: none is lost, and none is added
 all_distinct : (P : ResourceRecord → Type 0) (rs : List ResourceRecord)
     → All P rs → All P (distinct records_equal rs)
-all_distinct P rs all =
-    All-from_recursion P (distinct records_equal rs)
-    (each_distinct P records_equal rs (recursion_from_All P rs all))
+all_distinct P rs all = search (All-from_recursion, each_distinct, recursion_from_All)
 
 pub printed_hold_same : (o : DomainName) (rs : List ResourceRecord)
     → All LowerOwner rs → HoldSameRecords rs (printed_records (zone_of o rs))
@@ -59,8 +57,7 @@ module _ (o : DomainName) (t : Octets) (rs : List ResourceRecord)
 pub printed_reports : (o : DomainName) (t : Octets) (options : Options) (report : Report)
     → All (All (λ x. x < 256)) o → Reports o t options report → IsTrue options.is_printing → IsTrue
     report.passes → length report.output ≤ most_octets → Reports o report.output options report
-printed_reports o t options report from (fault_at code line, means, e) printing passes short =
-    absurd (false≢true (sym (ap (λ r. r.passes) e) ∙ passes))
+printed_reports o t options report from (fault_at code line, means, e) printing passes short = cc
 printed_reports o t options report from (records rs, means, e) printing passes short =
     let printed : report.output ≡ zone_text (zone_of o rs) =
     printed_output options (zone_of o rs) (faults (zone_of o rs)) report e printing passes in
@@ -73,8 +70,7 @@ printed_reports o t options report from (records rs, means, e) printing passes s
         → report ≡ report_of_faults options z fs
         → IsTrue options.is_printing → IsTrue report.passes → report.output ≡ zone_text z
     printed_output options z [] report e printing passes = grind arith
-    printed_output options z (f ∷ fs) report e printing passes =
-        absurd (false≢true (sym (ap (λ (r : Report). r.passes) e) ∙ passes))
+    printed_output options z (f ∷ fs) report e printing passes = grind arith
 
 -- zones with the same canonical text
 records_of : Meaning → List ResourceRecord

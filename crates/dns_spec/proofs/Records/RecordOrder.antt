@@ -3,7 +3,6 @@ use Rattle.dns_spec.proofs.Common.{◌≡◌, true, List, ap, ◌∙◌, arith, 
 use Rattle.dns_spec.proofs.DomainNames.NameLaws.{octets_equal-decides, names_equal-decides}
 use Rattle.dns_spec.proofs.ZoneChecks.FaultOrder.{faults_in_any_order, name_order_total, name_tie, Lower, lower_equal}
 use Rattle.dns_spec.proofs.General.Sorted.{each_sort, each_distinct, apart_distinct, Rises, sort_rises, permutation_sort}
-use Rattle.dns_spec.proofs.General.Orderings.{then_ties, nat_ties}
 
 pub record_order_total : IsTotalOrder record_order
 record_order_total =
@@ -17,8 +16,7 @@ name_ties n m = grind (arith, names_equal-decides, name_order_total, name_tie)
 
 -- records tie if and only if they are equal
 pub record_ties : (r s : ResourceRecord) → records_equal r s ≡ eq_by_cmp record_order r s
-record_ties r s =
-    grind (arith, name_ties, nat_ties, lists_ties, then_ties)
+record_ties r s = search (rules, name_ties, lists_ties)
 
 -- records that are equal by `records_equal`, with owners in lower case, are the same
 abbrev pub LowerOwner : ResourceRecord → Type 0

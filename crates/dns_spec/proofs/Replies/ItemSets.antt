@@ -70,8 +70,7 @@ first_of_type t (s ∷ rs) r m e = go (s.rtype == t) refl m (first_of_type t rs 
       typed = eqb-true s.rtype t p;
       ttl = ap (λ b. cond b s.ttl (first_ttl t rs)) p;
     }
-    go false p (inl q) f = absurd
-        (false≢true (sym p ∙ eq-eqb s.rtype t (ap (λ (x : ResourceRecord). x.rtype) (sym q) ∙ e)))
+    go false p (inl q) f = grind arith
     go false p (inr n) f =
         let g = f n e in
         record {

@@ -1,5 +1,5 @@
 -- The octets of a reply spell its message, and are at most its limit.
-use Rattle.dns_spec.proofs.Common.{◌≡◌, ℕ, ◌+◌, ◌^◌, ◌<◌, ◌≤◌, Bool, true, false, nat_le, ◌==◌, List, [], ◌∷◌, length, take, drop, Option, None, Some, IfSome, All, refl, subst, arith, length-take, mod-lt, cond_both, and_parts, leb-true, none-some, same_Some, cond_some, Octets, DomainName, is_name, number_of, ZoneContents, Header, MessageQuestion, Spells, name_at, Item, layout, message_of, size, outcome, items, is_authoritative, All-nil, All-take, All-drop, field16, head_of, reply_head, refusal_head, question_of, question_at, query_read, truncated, Decision, silence, header_alone, question_alone, answered, decide, Reply, answer_with, reply_of, reply_with, reply_octets, reply_message, keep_longest, reply, greatest, sections_in_order, IsWritable, IsAskable, HasRoom, AllByRecursion, recursion_from_All, records_by}
+use Rattle.dns_spec.proofs.Common.{◌≡◌, ℕ, ◌+◌, ◌^◌, ◌<◌, ◌≤◌, Bool, true, nat_le, ◌==◌, List, [], ◌∷◌, length, take, drop, Option, None, Some, IfSome, All, refl, subst, arith, length-take, mod-lt, cond_both, and_parts, leb-true, none-some, same_Some, cond_some, Octets, DomainName, is_name, number_of, ZoneContents, Header, MessageQuestion, Spells, name_at, Item, layout, message_of, size, items, All-take, All-drop, field16, head_of, reply_head, refusal_head, question_of, question_at, query_read, Decision, silence, header_alone, question_alone, answered, decide, Reply, reply_of, reply_with, reply_octets, reply_message, keep_longest, reply, greatest, sections_in_order, IsWritable, IsAskable, HasRoom, AllByRecursion, recursion_from_All, records_by}
 use Rattle.dns_spec.proofs.Messages.NameReading.{name_at_computes}
 use Rattle.dns_spec.proofs.Layouts.MessageParts.{length-question_octets}
 use Rattle.dns_spec.proofs.Layouts.LayoutSize.{length-layout}
@@ -90,11 +90,7 @@ reply_spells z d limit r writable low from upto e = go (decide z d) (decided z d
     -- a refusal: only the header, or the header and the question
     refusing : (h : Header) (q : Option MessageQuestion) → Refuses d h
         → IfSome q IsAskable → size q [] ≤ 65535 → Spells (layout h q []) (message_of h q [])
-    refusing h q ok may small =
-        subst (λ x. Spells (layout x q []) (message_of x q [])) ok.head
-        (layout_spells (refusal_head (head_of d) ok.rcode) q []
-        (roomy _ q [] id (flags_bound (head_of d) false false ok.rcode ok.low) may refl)
-        (All-nil IsWritable) small)
+    refusing h q ok may small = grind (arith, layout_spells, id)
 
     -- an answer: the question, with the sets that are kept
     answering : (h : Header) (q : MessageQuestion) → IsAskable q
@@ -115,15 +111,7 @@ reply_spells z d limit r writable low from upto e = go (decide z d) (decided z d
     go silence ok e = absurd (none-some r e)
     go (header_alone h) ok e = grind (arith, replied, None, refusing, bare_size)
     go (question_alone h q) ok e = grind (arith, askable, empty_size, replied, refusing)
-    go (answered h q) ok e =
-        let may = askable d q low ok.0 in
-        let o = outcome z q.qname q.qtype in
-        let sets = keep_longest z limit q in
-        let head = reply_head h (is_authoritative o) (truncated z q sets) o.rcode in
-        let flags = flags_bound h (is_authoritative o)
-        (truncated z q sets) o.rcode (outcome_rcode z writable q.qname q.qtype may.qname) in
-        replied (answer_with z h q sets)
-        (answering head q may (subst (λ (x : Header). x.id < 2 ^ 16) ok.1 id) flags) e
+    go (answered h q) ok e = grind (arith, askable, outcome_rcode, answering, id)
 
 -- The octets of a reply are at most the limit for which its sets were kept.
 named_question : (d : Octets) (q : MessageQuestion)

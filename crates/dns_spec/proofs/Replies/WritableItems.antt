@@ -229,9 +229,7 @@ tested i (j ∷ js) e = grind (arith, and_from, le-leb, (tested i js e.1))
 
 in_order : (is : List Item) → Ordered is → sections_in_order is ≡ true
 in_order [] o = refl
-in_order (i ∷ is) o =
-    and_from (list_all (λ (j : Item). nat_le (section_rank i.section) (section_rank j.section)) is)
-    (sections_in_order is) (tested i is o.0) (in_order is o.1)
+in_order (i ∷ is) o = cc (tested i is o.0, in_order is o.1)
 
 stood_records : (s : Section) (is : List Item)
     → AllByRecursion (Stood s) is → AllByRecursion (λ (i : Item). Writable i.records) is
@@ -277,8 +275,7 @@ module _ (z : ZoneContents)
 
   -- A prefix of the sets is in the order of the sections, and its records fit a message.
   pub items_in_order : (k : ℕ) → sections_in_order (take k (items z q t)) ≡ true
-  items_in_order k =
-      in_order (take k (items z q t)) (ordered_take k (items z q t) items_stood.0)
+  items_in_order k = grind (arith, in_order, ordered_take, items_stood)
 
   pub items_writable : (k : ℕ) → All IsWritable (records_of (take k (items z q t)))
   items_writable k =

@@ -1,7 +1,6 @@
 -- A stream is its frames and the rest, and the rest after all frames is empty or a frame that was
 -- cut short.
-use Rattle.dns_spec.proofs.Common.{common_steps, leb-true, le-leb, leb-false, none-some, cond_some, take_at, drop_at, length-take-le, All-head, All-tail, All-drop, flat_map, Octets, field16, octets16, ◌≡◌, ℕ, zero, suc, ◌+◌, ◌-◌, ◌*◌, ◌^◌, ◌<◌, ◌≤◌, Bool, true, false, cond, nat_le, ◌⊎◌, inl, inr, List, [], ◌∷◌, ◌++◌, length, take, drop, replicate, All, Option, None, Some, refl, sym, ap, ap₂, ◌∙◌, subst, arith, append_assoc, zero-add, length-append, length-drop, mod-eq_of_lt, take-append-drop, frame, has_frame, first_frame, frames, after_frames, IsCutFrame, recursion_from_All}
-use Rattle.dns_spec.proofs.Messages.Places.{number_of-bytes}
+use Rattle.dns_spec.proofs.Common.{common_steps, leb-true, le-leb, leb-false, none-some, cond_some, take_at, drop_at, length-take-le, All-head, All-tail, All-drop, flat_map, Octets, field16, octets16, ◌≡◌, ℕ, zero, suc, ◌+◌, ◌-◌, ◌*◌, ◌^◌, ◌<◌, ◌≤◌, Bool, true, false, cond, nat_le, ◌⊎◌, inl, inr, List, [], ◌∷◌, ◌++◌, length, take, drop, replicate, All, Option, None, Some, refl, sym, ap, ap₂, ◌∙◌, subst, arith, append_assoc, zero-add, length-append, length-drop, take-append-drop, frame, has_frame, first_frame, frames, after_frames, IsCutFrame, recursion_from_All}
 
 -- two octets are the number that they encode, and are read as it
 pub two_octets : (a b : ℕ) → a < 256 → b < 256 → octets16 (a * 256 + b) ≡ a ∷ b ∷ []

@@ -1,5 +1,5 @@
 -- Faults that no further record removes: a zone with more records, in any order, has them too.
-use Rattle.dns_spec.proofs.Common.{◌≡◌, ℕ, ◌≤◌, Bool, true, false, ◌&&◌, not, ◌==◌, nat_lt, List, [], ◌∷◌, ◌++◌, length, map, map-append, filter, filter-append, length-append, list_any, list_any-append, refl, ap, ◌∙◌, subst, arith, IsTrue, lt-ltb, ltb-true, eqb-true, false≢true, and_parts, and_from, or_parts, or_left, Contains, IsPermutation, Option, Some, None, DomainName, folded, same, at_or_below, below, target, type_cname, type_ns, type_soa, ResourceRecord, ZoneContents, at, owns, distinct, is_cut, Check, is_owner, count, has_target, most_of_a_set, most_sets, ttls_differ, data_at_cut, large_set, many_sets, checks, fails, faults, is_lasting, AllByRecursion}
+use Rattle.dns_spec.proofs.Common.{◌≡◌, ℕ, ◌≤◌, Bool, true, false, ◌&&◌, not, ◌==◌, nat_lt, List, [], ◌∷◌, ◌++◌, length, map, map-append, filter, filter-append, length-append, list_any, list_any-append, refl, ap, ◌∙◌, subst, arith, IsTrue, lt-ltb, ltb-true, eqb-true, false≢true, and_parts, and_from, or_parts, Contains, IsPermutation, Option, Some, None, DomainName, folded, same, at_or_below, target, type_cname, type_ns, type_soa, ResourceRecord, ZoneContents, at, owns, distinct, is_cut, Check, is_owner, count, has_target, most_sets, ttls_differ, data_at_cut, large_set, many_sets, checks, fails, faults, is_lasting, AllByRecursion}
 use Rattle.std.specs.Option.{option_map_or}
 use Rattle.dns_spec.specs.Sets.{types_of}
 use Rattle.dns_spec.specs.Checks.{owns_such}
@@ -11,8 +11,7 @@ use Rattle.dns_spec.proofs.ZoneChecks.FaultLaws.{fault_stands}
 -- what some element of a list passes, some element of a longer list passes by a weaker test
 any_more : {X : Type 0} (p q : X → Bool) (xs ys : List X) → ((x : X) → p x ≡ true → q x ≡ true)
     → list_any p xs ≡ true → list_any q (xs ++ ys) ≡ true
-any_more p q xs ys weaker e =
-    list_any-append q xs ys ∙ or_left (list_any q xs) (list_any q ys) (any_weaker p q xs weaker e)
+any_more p q xs ys weaker e = grind (arith, list_any-append, any_weaker)
 
 -- a longer list has at least as many distinct elements
 distinct_more : {X : Type 0} (eq : X → X → Bool) (xs ys : List X)
@@ -60,9 +59,7 @@ module _ (o : DomainName) (rs more : List ResourceRecord) where
   exceeds k m m' less e = lt-ltb k m' (omega (arith, less, (ltb-true k m e)))
 
   is_cut_stays : Stays is_cut
-  is_cut_stays n e =
-      let both = and_parts (below n o) (owns z n type_ns) e in
-      and_from _ _ both.0 (owns_stays n type_ns both.1)
+  is_cut_stays n e = grind (arith, owns_stays)
 
   target_stays : (n : DomainName) (type : ℕ → Bool)
       → has_target z n type (λ m. owns z m type_cname) ≡ true
@@ -73,17 +70,13 @@ module _ (o : DomainName) (rs more : List ResourceRecord) where
           → option_map_or (λ m. at_or_below m o && owns z m type_cname) m false ≡ true
           → option_map_or (λ m. at_or_below m o && owns z' m type_cname) m false ≡ true
       by_target None e = e
-      by_target (Some m) e =
-          let both = and_parts (at_or_below m o) (owns z m type_cname) e in
-          and_from _ _ both.0 (owns_stays m type_cname both.1)
+      by_target (Some m) e = grind (arith, owns_stays)
 
       by_record : (r : ResourceRecord) → (type r.rtype && option_map_or (λ m. at_or_below m o
           && owns z m type_cname) (target r.rtype r.rdata) false) ≡ true
           → (type r.rtype && option_map_or (λ m. at_or_below m o
           && owns z' m type_cname) (target r.rtype r.rdata) false) ≡ true
-      by_record r e =
-          let both = and_parts (type r.rtype) _ e in
-          and_from _ _ both.0 (by_target (target r.rtype r.rdata) both.1)
+      by_record r e = grind (arith, by_target)
 
   same_r : (p : ResourceRecord → Bool) (r : ResourceRecord) → p r ≡ true → p r ≡ true
   same_r p r e = e
@@ -97,8 +90,7 @@ module _ (o : DomainName) (rs more : List ResourceRecord) where
   exceeds_stays n t k e = exceeds k (count z n t) (count z' n t) (count_grows n t) e
 
   ttls_differ_stays : Stays ttls_differ
-  ttls_differ_stays n e =
-      any_stays n _ _ (λ r h. any_stays n _ _ (λ s k. k) h) e
+  ttls_differ_stays n e = grind (arith, any_stays)
 
   cuts_stay : (ns : List DomainName)
       → list_any (is_cut z) ns ≡ true → list_any (is_cut z') ns ≡ true
@@ -108,8 +100,7 @@ module _ (o : DomainName) (rs more : List ResourceRecord) where
   data_at_cut_stays n = grind (arith, is_cut_stays, cuts_stay, owns_such_stays, or_parts, and_parts)
 
   large_set_stays : Stays large_set
-  large_set_stays n e =
-      any_stays n _ _ (λ (r : ResourceRecord) h. exceeds_stays n r.rtype most_of_a_set h) e
+  large_set_stays n e = grind (arith, any_stays, exceeds_stays)
 
   many_sets_stays : Stays many_sets
   many_sets_stays n e =
@@ -175,12 +166,10 @@ module _ (o : DomainName) (rs more : List ResourceRecord) where
     where
       both : {p q p' q' : Bool} → (p && q) ≡ true
           → (p ≡ true → p' ≡ true) → (q ≡ true → q' ≡ true) → (p' && q') ≡ true
-      both {p} {q} {p'} {q'} e f g =
-          let parts = and_parts p q e in and_from p' q' (f parts.0) (g parts.1)
+      both {p} {q} {p'} {q'} e f g = grind arith
 
       exceeds_owner : (n : DomainName) → is_owner z n ≡ true → is_owner z' n ≡ true
-      exceeds_owner n e =
-          exceeds 0 (length (at z n)) (length (at z' n)) (grind (arith, at_more, length-append)) e
+      exceeds_owner n e = grind (arith, at_more, length-append)
 
   fails_stays : (n : DomainName) (code : ℕ)
       → is_lasting code ≡ true → fails z n code ≡ true → fails z' n code ≡ true

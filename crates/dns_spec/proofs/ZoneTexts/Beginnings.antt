@@ -102,9 +102,7 @@ module _ (more : Octets) where
           (o ∷ text) more (ap (λ n. is_cut_short (drop n (o ∷ text))) e ∙ uncut)
           ∙ e in ap (λ n. if n == 0 then None else Some
           (word (take n (o ∷ (text ++ more))), drop n (o ∷ (text ++ more)))) same))
-      go (suc n) e =
-          subst (λ front. Keeps (o ∷ text) front (unquoted_front (o ∷ (text ++ more))))
-          (sym (front_taken n (o ∷ text) e)) (taken_keeps n (o ∷ text) e)
+      go (suc n) e = grind (arith, taken_keeps n (o ∷ text) e)
 
   front_keeps : (o : ℕ) (text : Octets)
       → Keeps (stop_place o text) (token_front (o ∷ text)) (token_front (o ∷ (text ++ more)))
@@ -133,14 +131,12 @@ module _ (more : Octets) where
       ⊎ ((is_cut_short others ≡ true) × Loose t)
   unfolding Keeps
   front_kept [] t others e = absurd (none-some (t, others) e)
-  front_kept (o ∷ text) t others e = subst
-      (λ x. Keeps (stop_place o text) x (token_front (o ∷ (text ++ more)))) e (front_keeps o text)
+  front_kept (o ∷ text) t others e = grind (arith, front_keeps o text)
 
   pub none_kept : (o : ℕ) (text : Octets) → token_front (o ∷ text) ≡ None
       → is_cut_short (stop_place o text) ≡ false → token_front (o ∷ (text ++ more)) ≡ None
   unfolding Keeps
-  none_kept o text e = subst
-      (λ x. Keeps (stop_place o text) x (token_front (o ∷ (text ++ more)))) e (front_keeps o text)
+  none_kept o text e = grind (arith, front_keeps o text)
 
 -- if a text is cut short, no token begins
 pub cut_none : (text : Octets) → is_cut_short text ≡ true → token_front text ≡ None

@@ -1,5 +1,5 @@
 -- The fault of a prefix of a text, other than `too_long`, is the fault of the text.
-use Rattle.dns_spec.proofs.Common.{append-nil, ◌≡◌, ℕ, ◌≤◌, ◌⊎◌, inl, inr, Bool, true, false, ◌&&◌, not, Option, Some, None, List, [], ◌∷◌, ◌++◌, map, length, drop, refl, sym, ◌∙◌, ap, subst, arith, false≢true, true≢false, none-some, same_Some, cons_option, Octets, DomainName, ResourceRecord, FileFault, bad_parenthesis, too_long, faulty, gives, Meaning, records, fault_at, after, line_after, EntriesMean, Means, most_octets, extent_of, Token, token_front, TokensThen, parenthesis, parentheses, is_line_end, open_after, before_first, cut_entries, take_turns, is_open_at_end, is_cut_short, string_length, Extent, beginning, stop_at, string_fault, stop_fault, Entry, ended, unended, with_end, OctetsMean}
+use Rattle.dns_spec.proofs.Common.{append-nil, ◌≡◌, ℕ, ◌≤◌, ◌⊎◌, inl, inr, Bool, true, false, ◌&&◌, not, Option, Some, None, List, [], ◌∷◌, ◌++◌, map, length, drop, refl, sym, ◌∙◌, ap, subst, arith, false≢true, true≢false, none-some, cons_option, Octets, DomainName, ResourceRecord, FileFault, bad_parenthesis, too_long, faulty, gives, Meaning, records, fault_at, after, line_after, EntriesMean, Means, most_octets, extent_of, Token, token_front, TokensThen, parenthesis, parentheses, is_line_end, open_after, before_first, cut_entries, take_turns, is_open_at_end, is_cut_short, string_length, Extent, beginning, stop_at, string_fault, stop_fault, Entry, ended, unended, with_end, OctetsMean}
 use mathlib.Core.Bool.{xor}
 use Rattle.dns_spec.proofs.ZoneTexts.TextTokens.{has_tokens, tokens_cut, tokens_then}
 use Rattle.dns_spec.proofs.ZoneTexts.Beginnings.{Loose, run_more, stop_place, front_kept, none_kept, cut_none}
@@ -304,11 +304,7 @@ module _ (o : DomainName) (earlier : List Entry) (fault : FileFault)
         by_why : (us : List Token) (end : Octets) (before : List Entry)
             → LastFault o fault line before last rest → EntriesMean o before (with_end extent end
             (before_all c.part (cut_entries c.now_open us))) (fault_at fault line)
-        by_why us end before l = elim l.why [
-          | inl w ↦ wrong us end before w.0 w.1 l.line_is
-          | inr w ↦ absurd
-              (other (sym (same_Some too_long fault (sym (limit (is_open_at_end last)) ∙ w.1))))
-        ]
+        by_why us end before l = grind (arith, wrong)
 
     -- the last entry has another fault at its end, which is not cut short
     stuck : (x : ℕ) (xs : Octets) → rest ≡ x ∷ xs → s.middle ≡ rest → is_cut_short (stop_place x xs)
@@ -347,8 +343,7 @@ module _ (o : DomainName) (earlier : List Entry) (fault : FileFault)
   by_rest s c none middle = go rest refl
     where
       is_last : before_all c.part (cut_entries c.now_open s.loose) ≡ (c.part ++ []) ∷ []
-      is_last = ap (λ us. before_all c.part (cut_entries c.now_open us)) none
-          ∙ before_all-cons c.part [] []
+      is_last = grind (arith, before_all-cons)
 
       by_place : (x : ℕ) (xs : Octets) (b : Bool) → rest ≡ x ∷ xs → is_cut_short
           (stop_place x xs) ≡ b → OctetsMean o earlier extent (front ++ more) (fault_at fault line)

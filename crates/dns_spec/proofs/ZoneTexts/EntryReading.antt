@@ -150,12 +150,7 @@ reads_well (suc k) b before text few =
                   (read_entry k (open_after b r.0) (before + (length text - length r.1)) r.1)
             ])
         by_line true h = line_read b text r.1 r.0 e h
-        by_line false h =
-            let less = front-shorter text r.0 r.1 e in
-            let passed : ℕ = before + (length text - length r.1) in
-            let read = read_entry k (open_after b r.0) passed r.1 in
-            one_more b text r.1 r.0 e h (tokens_of read.0) read.1
-            (later (open_after b r.0) passed r.1 (omega (arith, less, few)))
+        by_line false h = grind (arith, front-shorter, one_more)
 
         by_place : (wrong : Bool) → is_misplaced b r.0 ≡ wrong
             → WellRead b text (elim wrong as (λ _. List PlacedToken × Ending) [

@@ -6,7 +6,7 @@ use Rattle.dns_spec.proofs.ZoneTexts.TextTokens.{HasTokens, has_tokens, tokens_t
 use Rattle.dns_spec.proofs.ZoneTexts.BeginningsMean.{first_of_cut}
 use Rattle.dns_spec.proofs.ZoneTexts.EntryReading.{LineRead, StopRead, WrongRead, WrongFirst, ReadsWell, tokens_of, reads_well}
 use Rattle.dns_spec.proofs.ZoneTexts.LineCounts.{feeds, feeds_append, tokens_front, line_after_one_more}
-use Rattle.dns_spec.proofs.ZoneTexts.SomeMeaning.{Known, known_more, nothing_known, sort_given, faultless, entry_sure}
+use Rattle.dns_spec.proofs.ZoneTexts.SomeMeaning.{Known, known_more, nothing_known, sort_given, entry_sure}
 
 -- the first of the entries into which a text is split, if reading it ends as it should
 pub record FirstEntry (extent : Extent) (text : Octets) (e : Entry) : Type 0 where
@@ -32,9 +32,7 @@ ended_first extent text rest ts es read more =
     split : (pss : List (List Token)) (first : List Token) (others : List (List Token))
         → pss ≡ first ∷ others
         → ended ts ∷ with_end extent more.rest pss ≡ with_end extent more.rest (ts ∷ pss)
-    split pss first others e =
-        subst (λ x. ended ts ∷ with_end extent more.rest x ≡ with_end extent more.rest (ts ∷ x))
-        (sym e) refl
+    split pss first others e = grind arith
 
 line_first : (extent : Extent) (text rest : Octets) (ts : List Token)
     → LineRead false text ts rest → FirstEntry extent text (ended ts)
@@ -163,8 +161,7 @@ module _ (o : DomainName) (octets past beyond : Octets) where
   faulty_first : (earlier : List Entry) (x : Octets) (e : Entry) (fault : FileFault) (line : ℕ)
       → FirstEntry extent x e → EntryGives o earlier e (faulty fault) → line ≡ line_after earlier
       → OctetsMean o earlier extent x (fault_at fault line)
-  faulty_first earlier x e fault line first given is =
-      (e ∷ first.others, first.are, (faulty fault, given, ap (fault_at fault) is))
+  faulty_first earlier x e fault line first given is = grind arith
 
   -- a text whose first entry has a fault
   faulty_by : (earlier : List Entry) (x : Octets) (ps : List PlacedToken) (ending : Ending)
@@ -178,11 +175,7 @@ module _ (o : DomainName) (octets past beyond : Octets) where
       faulty_first earlier x _ fault line
       (record { others = []; are = stop_only extent x rest (tokens_of ps) now read }) given is
   faulty_by earlier x ps (at_parenthesis place) fault line read given is =
-      let w = wrong_entry extent x (tokens_of ps) read in
-      faulty_first earlier x w.entry fault line w.first
-      (given_lexical earlier w.entry bad_parenthesis (faulty fault) w.fault
-      (lexical_given earlier (wrong_one (tokens_of ps)) bad_parenthesis (faulty fault)
-      (wrong_is (tokens_of ps)) given)) is
+      grind (arith, wrong_entry extent x (tokens_of ps) read)
 
   -- an entry with a lexical fault gives no records
   abbrev pub Lexical : Entry → Type 0
@@ -190,8 +183,7 @@ module _ (o : DomainName) (octets past beyond : Octets) where
 
   pub none_given : {A : Type 0} (earlier : List Entry) (e : Entry) (own : List ResourceRecord)
       → Lexical e → EntryGives o earlier e (gives own) → A
-  none_given earlier e own (fault, is) given =
-      absurd (faultless own fault (lexical_given earlier e fault (gives own) is given))
+  none_given earlier e own (fault, is) given = grind arith
 
   pub stops : (now : Bool) (c : ℕ) (rest : Octets)
       → (fault : FileFault) × (stop_fault extent now (stop_at (c ∷ rest)) ≡ Some fault)
@@ -225,19 +217,8 @@ module _ (o : DomainName) (octets past beyond : Octets) where
       (found : List EntryFault) (own later rs : List ResourceRecord)
       → LineRead false x ts rest → EntryGives o earlier (ended ts) (gives own)
       → rs ≡ own ++ later → Mean (ended ts ∷ earlier) rest found later → Mean earlier x found rs
-  sound_line earlier x rest ts found own later rs read given is (es, are, mean) = (
-    ended ts ∷ es,
-    ended_first extent x rest ts es read are,
-    (
-      gives own,
-      given,
-      (
-        meaning_by (octets ++ beyond) found later,
-        mean,
-        meaning_after own later rs found is,
-      ),
-    ),
-  )
+  sound_line earlier x rest ts found own later rs read given is (es, are, mean) =
+      grind (arith, ended_first extent x rest ts es read are)
 
   -- the last entry, without a fault
   sound_stop : (earlier : List Entry) (x : Octets) (ts : List Token) (now : Bool)
@@ -246,19 +227,8 @@ module _ (o : DomainName) (octets past beyond : Octets) where
       → EntryGives o earlier
       (record { tokens = ts; end_fault = stop_fault extent now (stop_at []) }) (gives own)
       → rs ≡ own ++ later → (found ≡ []) × (later ≡ []) → Mean earlier x found rs
-  sound_stop earlier x ts now found own later rs read given is none = (
-    _,
-    stop_only extent x [] ts now read,
-    (
-      gives own,
-      given,
-      (
-        records [],
-        refl,
-        ap₂ (meaning_by (octets ++ beyond)) none.0 is ∙ ap (λ l. records (own ++ l)) none.1,
-      ),
-    ),
-  )
+  sound_stop earlier x ts now found own later rs read given is none =
+      grind (arith, stop_only extent x [] ts now read)
 
   abbrev Later : ℕ → List Entry → Entry → Ending → List EntryFault → List ResourceRecord → Type 0
   Later k earlier e ending found later =
@@ -299,17 +269,13 @@ module _ (o : DomainName) (octets past beyond : Octets) where
       lines_on a b c d m n p q r s = omega (arith, p, q, r, s)
   sound_by k walks earlier front x ps (at_parenthesis place) found own later rs few cut line known
       read given is tail =
-      none_given earlier (wrong_one (tokens_of ps)) own
-      (bad_parenthesis, wrong_is (tokens_of ps)) given
+      grind arith
   sound_by k walks earlier front x ps (at_stop now []) found own later rs few cut line known
       read given is tail =
       sound_stop earlier x (tokens_of ps) now found own later rs read given is tail
   sound_by k walks earlier front x ps (at_stop now (c ∷ rest)) found own later rs few cut line known
       read given is tail =
-      none_given earlier
-      (record { tokens = tokens_of ps; end_fault = stop_fault extent now (stop_at (c ∷ rest)) }) own
-      (lexical_stop (tokens_of ps) (stop_fault extent now (stop_at (c ∷ rest)))
-      (stops now c rest)) given
+      grind arith
 
   walk : (k : ℕ) → Walks k
   unfolding entries_from
@@ -353,8 +319,7 @@ less_left k n = go (nat_lt k n) refl
 
 pub goes_on : (k : ℕ) (text : Octets)
     → nat_lt 0 (length (take 1 (drop k text))) ≡ nat_lt k (length text)
-goes_on k text =
-    some_left (drop k text) ∙ ap (nat_lt 0) (length-drop k text) ∙ less_left k (length text)
+goes_on k text = grind (arith, some_left, length-drop)
 
 -- The first of all faults of a text, and the line of its entry, are those of the meaning.
 pub first_fault : (o : DomainName) (text : Octets) (found : List EntryFault)

@@ -6,8 +6,7 @@ abbrev pub feeds : Octets → ℕ
 feeds text = length (filter (λ o. o == 10) text)
 
 pub feeds_append : (xs ys : Octets) → feeds (xs ++ ys) ≡ feeds xs + feeds ys
-feeds_append xs ys =
-    ap length (filter-append (λ o. o == 10) xs ys) ∙ length-append (filter (λ o. o == 10) xs) _
+feeds_append xs ys = grind (arith, filter-append, length-append)
 
 abbrev NoFeed : ℕ → Type 0
 NoFeed o = (o == 10) ≡ false
@@ -67,8 +66,7 @@ run_free p free zero (o ∷ text) left =
         → AllByRecursion NoFeed (take (run_length p k text) text)) → AllByRecursion
         NoFeed (take (elim u as (λ _. ℕ) [ None ↦ 0 | Some k ↦ 1 + run_length p k text ]) (o ∷ text))
     go None e after = tt
-    go (Some k) e after = let unit = unit_free p free o text k e in
-        one_more (run_length p k text) o text unit.0 (after k unit.1)
+    go (Some k) e after = grind (arith, unit_free, one_more)
 
 -- the octets of the token that begins a text
 pub record FrontOf (text : Octets) (p : Token) (others : Octets) : Type 0 where

@@ -2,7 +2,7 @@
 use Rattle.dns_spec.proofs.Common.{◌≡◌, ℕ, zero, suc, ◌+◌, ◌-◌, ◌<◌, inl, inr, Bool, true, false, List, [], ◌∷◌, ◌++◌, length, take, drop, refl, sym, ap, ap₂, ◌∙◌, subst, arith, Some, None, DomainName, Octets, ResourceRecord, most_octets, cut_entries, Extent, extent_by, EntriesOf, Entry, ended, with_end, FileFault, bad_parenthesis, faulty, gives, EntryGives, Meaning, records, fault_at, EntriesMean, Means, OctetsMean, PlacedToken, Ending, after_line, at_parenthesis, at_stop, text_after, placed_entry, read_entry, entries_from, PlacedEntry, EntriesGive, AllFaults, false≢true}
 use Rattle.dns_spec.proofs.ZoneTexts.TextTokens.{has_tokens, tokens_cut}
 use Rattle.dns_spec.proofs.ZoneTexts.EntryReading.{ReadsWell, tokens_of, reads_well}
-use Rattle.dns_spec.proofs.ZoneTexts.FirstFault.{ended_first, stop_only, wrong_entry, extent, Lexical, none_given, lexical_stop, stops, goes_on}
+use Rattle.dns_spec.proofs.ZoneTexts.FirstFault.{ended_first, stop_only, wrong_entry, extent, Lexical, lexical_stop, stops, goes_on}
 use Rattle.dns_spec.proofs.ZoneTexts.OneMeaning.{tokens_once}
 
 entries_once : (x : Extent) (text : Octets) (es fs : List Entry)
@@ -66,8 +66,7 @@ module _ (o : DomainName) (octets past : Octets) where
       (rs : List ResourceRecord) → EntriesOf x text (e ∷ es)
       → OctetsMean o earlier x text (records rs) → Lexical o octets past [] e → A
   not_lexical earlier text e es rs are mean lexical =
-      let first = first_sound earlier text e es rs are mean in
-      none_given o octets past [] earlier e first.own lexical first.given
+      grind (arith, first_sound earlier text e es rs are mean)
 
   abbrev Walks : ℕ → Type 0
   Walks k = (earlier : List Entry) (text : Octets) (rs : List ResourceRecord) → length text < k

@@ -62,8 +62,7 @@ string_small text [] h small = tt
 string_small text (x ∷ s) (first, others, cut, spelled, h) small =
     grind (
       arith,
-      (string_small others s h
-          (each_back Octet first others (subst (AllByRecursion Octet) cut small))),
+      string_small others s h (each_back Octet first others (subst (AllByRecursion Octet) cut small)),
     )
 
 tested_small : (d : Octets) → list_all (λ x. nat_lt x 256) d ≡ true → AllByRecursion Octet d
@@ -81,9 +80,7 @@ ipv6_small text d said = go (ipv6_groups text) said
     go : (gs : Option (List ℕ))
         → option_map (flat_map (bytes_high_first 2)) gs ≡ Some d → AllByRecursion Octet d
     go None e = absurd (none-some d e)
-    go (Some gs) e =
-        subst (AllByRecursion Octet) (same_Some (flat_map (bytes_high_first 2) gs) d e)
-        (groups_small gs)
+    go (Some gs) e = grind (arith, groups_small)
 
 forms_small : (fs : List Field) (origin : DomainName) (ws : List Word) (d : Octets)
     → SmallName origin → AllByRecursion SmallWord ws → SaysFields fs origin ws d

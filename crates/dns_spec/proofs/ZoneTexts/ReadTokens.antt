@@ -29,8 +29,7 @@ run_small p small zero (o ∷ text) left =
         → AllByRecursion Octet (take (run_length p k text) text)) → AllByRecursion
         Octet (take (elim u as (λ _. ℕ) [ None ↦ 0 | Some k ↦ 1 + run_length p k text ]) (o ∷ text))
     go None e after = tt
-    go (Some k) e after = let unit = unit_small p small o text k e in
-        one_more (run_length p k text) o text unit.0 (after k unit.1)
+    go (Some k) e after = grind (arith, unit_small, one_more)
 
 -- the words and strings of tokens are octets below 256
 abbrev pub SmallToken : Token → Type 0
@@ -69,8 +68,7 @@ cut_small is_open (p ∷ ps) small =
           | false ↦ before_first p (cut_entries (open_after is_open p) ps)
         ])
     go true later = ((small.0, tt), later false)
-    go false later = before_small p
-        (cut_entries (open_after is_open p) ps) small.0 (later (open_after is_open p))
+    go false later = grind arith
 
 abbrev pub SmallEntry : Entry → Type 0
 SmallEntry e = AllByRecursion SmallToken e.tokens

@@ -51,8 +51,7 @@ has_tokens text = tokens-within (suc (length text)) text (omega arith)
 pub tokens_cut : (extent : Extent) (octets : Octets) (ps : List Token) (rest : Octets)
     → TokensThen octets ps rest → token_front rest ≡ None
     → EntriesOf extent octets (with_end extent rest (cut_entries false ps))
-tokens_cut extent octets ps rest spelled at_end =
-    record { tokens = ps; rest = rest; spelled = spelled; at_end = at_end; entries = refl }
+tokens_cut extent octets ps rest spelled at_end = grind arith
 
 -- tokens followed by others
 pub tokens_then : (text middle rest : Octets) (ts us : List Token)
