@@ -1,13 +1,17 @@
 -- An entry of more words than are stored is invalid, and so are its stored words.
-use Rattle.dns_master.proofs.Common.{◌≡◌, ℕ, zero, suc, ◌+◌, ◌<◌, ◌≤◌, ◌⊎◌, inl, inr, Bool, true, false, if◌then◌else◌, List, [], ◌∷◌, length, length-drop, take, take_all, drop, refl, sym, ◌∙◌, subst, arith, codes, DomainName, ResourceRecord, Word, Entry, FileFault, bad_owner, no_owner, directive, owned, unowned, EntryMeaning, gives, faulty, Nothing, NameIs, OwnerBefore, TtlSays, Fields, fields, TypeIs, DataIs, RecordGives, KindGives, kind_by_words, is_directive, text_in_lower_case, Octets, most_words}
+use Rattle.dns_master.proofs.Common.{◌≡◌, ℕ, zero, suc, ◌+◌, ◌<◌, ◌≤◌, ◌⊎◌, inl, inr, Bool, true, false, if◌then◌else◌, List, [], ◌∷◌, length, length-drop, take, take_all, drop, refl, sym, ◌∙◌, subst, arith, codes, DomainName, ResourceRecord, Word, Entry, FileFault, bad_owner, no_owner, directive, owned, unowned, EntryMeaning, gives, faulty, Nothing, NameIs, OwnerBefore, TtlSays, Fields, fields, TypeIs, DataIs, RecordGives, KindGives, kind_by_words, is_directive, text_in_lower_case, Octets, Option}
 use Rattle.std.specs.Bool.{MatchBool}
 use Rattle.std.proofs.lemmas.Bool.{cases_lt}
 use Rattle.std.proofs.lemmas.List.{length-take}
 use Rattle.dns_spec.specs.FileFaults.{unknown_directive}
 use Rattle.dns_spec.specs.Names.{octets_equal}
-use Rattle.dns_spec.specs.Meaning.{class_after, ttl_after, is_ttl_word, is_class_word, DirectiveSays, DirectiveGives}
+use Rattle.dns_spec.specs.Meaning.{is_ttl_word, is_class_word, DirectiveSays, DirectiveGives}
 use Rattle.dns_spec.proofs.DataWords.FewWords.{few_words}
 use Rattle.dns_spec.proofs.ZoneTexts.SomeMeaning.{faultless}
+
+-- the most words of an entry that are stored while a file is read
+abbrev pub most_words : ℕ
+most_words = 65542
 
 -- fields with only the first m words from the type on
 abbrev cut_to : ℕ → Fields → Fields
@@ -24,26 +28,27 @@ cut-either : (n count : ℕ) (b : Bool) (g g' f f' : Fields) → Cut n count g f
 cut-either n count true g g' f f' h h' = h
 cut-either n count false g g' f f' h h' = h'
 
-class-cut : (k : ℕ) (w : Word) (ws : List Word) → Cut (suc (suc k)) (length (w ∷ ws))
-    (class_after w (take (suc k) ws)) (class_after w ws)
-class-cut k w [] = (suc k, omega arith, omega arith, refl)
-class-cut k w (v ∷ ws) =
-    cut-either _ _ (is_class_word v) _ _ _ _
-    (k, omega arith, omega arith, refl) (suc k, omega arith, omega arith, refl)
-
-ttl-cut : (k : ℕ) (w : Word) (ws : List Word) → Cut (suc (suc k)) (length (w ∷ ws))
-    (ttl_after w (take (suc k) ws)) (ttl_after w ws)
-ttl-cut k w [] = (suc k, omega arith, omega arith, refl)
-ttl-cut k w (v ∷ ws) =
-    cut-either _ _ (is_ttl_word v) _ _ _ _
-    (k, omega arith, omega arith, refl) (suc k, omega arith, omega arith, refl)
+-- the second word is the last one before the type, or the type itself
+second-cut : (k : ℕ) (b : Bool) (ttl ttl' class class' : Option Word) (w v : Word) (ws : List Word)
+    → Cut (suc (suc k)) (length (w ∷ v ∷ ws))
+    (if b then record { ttl = ttl; class = class; others = take k ws }
+    else record { ttl = ttl'; class = class'; others = v ∷ take k ws })
+    (if b then record { ttl = ttl; class = class; others = ws }
+    else record { ttl = ttl'; class = class'; others = v ∷ ws })
+second-cut k b ttl ttl' class class' w v ws =
+    cut-either _ _ b _ _ _ _ (k, omega arith, omega arith, refl) (suc k, omega arith, omega arith, refl)
 
 fields-cut : (k : ℕ) (ws : List Word)
     → Cut (suc (suc k)) (length ws) (fields (take (suc (suc k)) ws)) (fields ws)
 fields-cut k [] = (suc (suc k), omega arith, omega arith, refl)
-fields-cut k (w ∷ ws) =
-    cut-either _ _ (is_ttl_word w) _ _ _ _ (class-cut k w ws)
-    (cut-either _ _ (is_class_word w) _ _ _ _ (ttl-cut k w ws)
+fields-cut k (w ∷ []) =
+    let all : (f : Fields) → Cut (suc (suc k)) 1 (cut_to (suc (suc k)) f) f =
+    λ f. (suc (suc k), omega arith, omega arith, refl) in
+    cut-either _ _ (is_ttl_word w) _ _ _ _ (all _) (cut-either _ _ (is_class_word w) _ _ _ _
+    (all _) (all _))
+fields-cut k (w ∷ v ∷ ws) =
+    cut-either _ _ (is_ttl_word w) _ _ _ _ (second-cut k (is_class_word v) _ _ _ _ w v ws)
+    (cut-either _ _ (is_class_word w) _ _ _ _ (second-cut k (is_ttl_word v) _ _ _ _ w v ws)
     (suc (suc k), omega arith, omega arith, refl))
 
 type-cut : (m : ℕ) (ws : List Word) (t : ℕ) → TypeIs (take (suc m) ws) t → TypeIs ws t

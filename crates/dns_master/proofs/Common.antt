@@ -5,12 +5,11 @@ pub use Rattle.std.specs.Cmp.Lexicographic.{pointwise, same_text}
 pub use Rattle.std.specs.List.{position}
 pub use Rattle.std.proofs.lemmas.List.{at_drop_more}
 pub use Rattle.dns_master.specs.Codes.{ForFault, IsFaultOn, OfEntry, OfFile, code_number, failures_after_read, fault_of}
-pub use Rattle.dns_master.specs.EntryForm.{EntryRead, IsWhole, Reads, Step, TextMeans, line_ends, misplaced, onward, ending_of, over, step, token_words}
+pub use Rattle.dns_master.specs.EntryForm.{EntryRead, Reads, StepIs, line_ends, token_words}
 pub use Rattle.dns_master.specs.PieceForm.{AllGive, FrontFaulty, FrontAdded, FrontTaken, Knows, MayFollow, PieceFaulty, PieceTaken, ReaderMeans, TextAdded}
 pub use Rattle.dns_master.specs.RecordForm.{IsKept, LastOwner, SpelledName, SpelledOwner}
 pub use Rattle.dns_master.specs.SourceForm.{AppendsPiece, Decides, IsRead, ReadsFile}
 pub use Rattle.dns_master.specs.TokenForm.{by_itself, shown_token}
-pub use Rattle.dns_master.specs.EntryFound.{EntryFound, most_words}
 pub use Rattle.dns_master.specs.declared.read_fault.ReadCode.{ReadCode}
 pub use Rattle.dns_master.specs.declared.read_fault.ReadCode.TheVariants.{BadData, BadType, DirectiveWords, NoMemory, NoTtl, OtherClass, Parenthesis, TooLong, TooManyRecords}
 pub use Rattle.dns_master.specs.declared.read_fault.ReadFault.{ReadFault}
@@ -23,6 +22,8 @@ pub use Rattle.dns_spec.proofs.NameTexts.Escapes.{counted_escape, escape-counted
 pub use Rattle.dns_spec.proofs.ZoneTexts.Beginnings.{Loose, cut_none, front_kept}
 pub use Rattle.dns_spec.proofs.ZoneTexts.BeginningsMean.{beginning_decides}
 pub use Rattle.dns_spec.proofs.ZoneTexts.TextTokens.{front-shorter, has_tokens, tokens_cut}
+pub use Rattle.dns_spec.specs.Laws.{OctetsMean}
+unfoldable pub use Rattle.dns_master.specs.PieceForm.{TextMeans}
 pub use Rattle.dns_spec.specs.Meaning.{is_directive}
 pub use Rattle.dns_spec.specs.ZoneText.{begins_blank, is_blank_token}
 pub use Rattle.dns_spec.proofs.General.Results.{fault_handed_on}

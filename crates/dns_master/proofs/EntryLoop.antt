@@ -1,12 +1,14 @@
 -- Reading an entry token by token: the tokens so far, followed by the remaining ones, are those of
 -- the entry.
-use Rattle.dns_master.proofs.Common.{◌≡◌, ℕ, ◌+◌, ◌≤◌, Bool, true, false, cond, List, [], ◌∷◌, ◌++◌, length, refl, sym, ap, ◌∙◌, subst, arith, append_assoc, append-nil, Some, None, Octets, Word, Token, token_front, is_line_end, word_of, filter, cons_option, front-shorter, onward, step, Reads, token_words, line_ends, EntryRead, is_blank, drop, prefix_len}
-use Rattle.dns_master.proofs.RunLemmas.{blank-first}
-use Rattle.dns_master.proofs.Common.{◌<◌, length-append, take, take_all}
+use Rattle.dns_master.proofs.Common.{◌≡◌, ◌<◌, ℕ, ◌+◌, ◌≤◌, Bool, true, false, cond, List, [], ◌∷◌, ◌++◌, length, length-append, take, take_all, refl, sym, ap, ◌∙◌, subst, arith, append_assoc, append-nil, Some, None, Octets, Word, Token, token_front, is_line_end, word_of, filter, cons_option, front-shorter, Reads, StepIs, token_words, line_ends, EntryRead, is_blank, drop, prefix_len}
 use Rattle.std.proofs.lemmas.List.{length-take, take-append-le}
 use Rattle.dns_spec.specs.ZoneText.{blank}
-use Rattle.dns_spec.specs.EntryPlaces.{Ending, at_stop}
+use Rattle.dns_spec.specs.EntryPlaces.{Ending, is_misplaced}
 use Rattle.dns_spec.proofs.General.Options.{cons_option-append}
+use Rattle.dns_master.specs.EntryForm.{rest_in}
+use Rattle.dns_master.specs.declared.entry.Step.TheVariants.{Onward}
+use Rattle.dns_master.proofs.RunLemmas.{blank-first}
+use Rattle.dns_master.proofs.EntryFacts.{reads-on}
 
 pub words-append : (ps qs : List Token) → token_words (ps ++ qs) ≡ token_words ps ++ token_words qs
 words-append [] qs = refl
@@ -27,13 +29,13 @@ lines-append [] qs = omega (arith)
 lines-append (p ∷ ps) qs =
     grind (arith, length-cond, is_line_end, filter, cond-more, line_ends, (lines-append ps qs))
 
-line_ends-one : (p : Token) → line_ends (p ∷ []) ≤ 1
-line_ends-one p = grind arith
+-- a token has at most one word or line end
+one-each : (p : Token) → length (token_words (p ∷ [])) + line_ends (p ∷ []) ≤ 1
+one-each p = grind arith
 
--- a token has at least as many octets as line ends
-pub lines-shorter : (text others : Octets) (p : Token)
-    → token_front text ≡ Some (p, others) → line_ends (p ∷ []) + length others ≤ length text
-lines-shorter text others p e = search (arith, front-shorter, line_ends-one)
+-- a misplaced parenthesis ends no line
+pub wrong-lines : (b : Bool) (p : Token) → is_misplaced b p ≡ true → line_ends (p ∷ []) ≡ 0
+wrong-lines b p e = grind arith
 
 -- the first n words, after a token that is a word, which is stored if there are fewer than n; and
 -- after a token that is not a word
@@ -57,7 +59,7 @@ module _ (n : ℕ) (stored all : List Word) (p : Token) (is : stored ≡ take n 
       is ∙ ap (take n) (sym (append-nil all))
       ∙ ap (λ o. take n (all ++ cons_option o [])) (sym none)
 
-module _ (text : Octets) where
+module _ (text : Octets) (most : ℕ) where
   -- the tokens so far, with their words and line ends; any way to read the remaining tokens
   -- completes them
   pub record EntrySoFar
@@ -65,25 +67,77 @@ module _ (text : Octets) where
     pub tokens : List Token
     pub whole : (ps : List Token) (ending : Ending)
         → Reads is_open rest ps ending → Reads false text (tokens ++ ps) ending
-    pub same_words : words ≡ token_words tokens
+    pub stored : words ≡ take most (token_words tokens)
     pub counted : lines ≡ line_ends tokens
+    pub bound : length (token_words tokens) + lines + length rest ≤ length text
 
-  -- a token is read after which the entry goes on
-  pub token-read : (is_open now_open : Bool) (rest others : Octets) (p : Token) (words : List Word)
-      (lines lines' : ℕ) → EntrySoFar is_open rest words lines → token_front rest ≡ Some (p, others)
-      → step is_open p ≡ onward now_open → lines' ≡ lines + line_ends (p ∷ [])
-      → EntrySoFar now_open others (words ++ token_words (p ∷ [])) lines'
-  token-read is_open now_open rest others p words lines lines' so front goes_on l =
-      record {
-        tokens = so.tokens ++ p ∷ [];
-        whole = λ ps ending h.
-            subst (λ xs. Reads false text xs ending) (sym (append_assoc so.tokens (p ∷ []) ps))
-            (so.whole (p ∷ ps) ending (others, front, rw goes_on h));
-        same_words = ap (λ x. x ++ token_words (p ∷ [])) so.same_words
-            ∙ sym (words-append so.tokens (p ∷ []));
-        counted =
-            l ∙ ap (λ n. n + line_ends (p ∷ [])) so.counted ∙ sym (lines-append so.tokens (p ∷ []));
-      }
+  module _ (is_open : Bool) (rest : Octets) (words : List Word) (lines : ℕ)
+      (so : EntrySoFar is_open rest words lines) where
+    -- a token is read after which the entry goes on
+    pub token-read : (now_open : Bool) (others : Octets) (p : Token) (words' : List Word)
+        (lines' : ℕ) → token_front rest ≡ Some (p, others) → StepIs is_open p (Onward now_open)
+        → words' ≡ take most (token_words so.tokens ++ token_words (p ∷ []))
+        → lines' ≡ lines + line_ends (p ∷ []) → EntrySoFar now_open others words' lines'
+    token-read now_open others p words' lines' front (sound, within, opens) stored counted =
+        record {
+          tokens = so.tokens ++ p ∷ [];
+          whole = λ ps ending h.
+              subst (λ xs. Reads false text xs ending) (sym (append_assoc so.tokens (p ∷ []) ps))
+              (so.whole (p ∷ ps) ending (reads-on is_open rest others p front ps ending sound
+              within (subst (λ b. Reads b others ps ending) (sym opens) h)));
+          stored = stored ∙ ap (take most) (sym (words-append so.tokens (p ∷ [])));
+          counted = counted ∙ ap (λ n. n + line_ends (p ∷ [])) so.counted
+              ∙ sym (lines-append so.tokens (p ∷ []));
+          bound =
+              let words = ap length (words-append so.tokens (p ∷ []))
+              ∙ length-append (token_words so.tokens) (token_words (p ∷ [])) in
+              omega (
+                arith,
+                so.bound,
+                words,
+                counted,
+                one-each p,
+                front-shorter rest p others front,
+              );
+        }
+
+    -- the entry ends with these tokens
+    pub entry-over : (ps : List Token) (ending : Ending) (lines' : ℕ) → Reads is_open rest ps ending
+        → words ≡ take most (token_words so.tokens ++ token_words ps)
+        → lines' ≡ lines + line_ends ps
+        → length (token_words ps) + line_ends ps + length (rest_in ending) ≤ length rest
+        → EntryRead text most words lines' ending
+    entry-over ps ending lines' reads stored counted fits =
+        record {
+          tokens = so.tokens ++ ps;
+          reads = so.whole ps ending reads;
+          stored = stored ∙ ap (take most) (sym (words-append so.tokens ps));
+          counted = counted ∙ ap (λ n. n + line_ends ps) so.counted
+              ∙ sym (lines-append so.tokens ps);
+          bound =
+              let words = ap length (words-append so.tokens ps)
+              ∙ length-append (token_words so.tokens) (token_words ps) in
+              omega (arith, so.bound, words, counted, fits);
+        }
+
+    -- ... with no more tokens
+    pub entry-stopped : (ending : Ending) (lines' : ℕ) → Reads is_open rest [] ending
+        → lines' ≡ lines → length (rest_in ending) ≤ length rest
+        → EntryRead text most words lines' ending
+    entry-stopped ending lines' reads counted fits =
+        entry-over [] ending lines' reads
+        (so.stored ∙ ap (take most) (sym (append-nil (token_words so.tokens))))
+        (omega (arith, counted)) (omega (arith, fits))
+
+    -- ... with the token `p`, which is not a word
+    pub entry-ended : (others : Octets) (p : Token) (ending : Ending) (lines' : ℕ)
+        → token_front rest ≡ Some (p, others) → Reads is_open rest (p ∷ []) ending
+        → word_of p ≡ None → lines' ≡ lines + line_ends (p ∷ []) → rest_in ending ≡ others
+        → EntryRead text most words lines' ending
+    entry-ended others p ending lines' front reads none counted is =
+        let left = ap length is in
+        entry-over (p ∷ []) ending lines' reads (other-passed most words _ p so.stored none) counted
+        (omega (arith, left, one-each p, front-shorter rest p others front))
 
   -- skipping the blanks at the front of `rest`, if there are any, passes one token
   pub blanks-passed : (is_open : Bool) (rest : Octets) (words : List Word)
@@ -96,35 +150,6 @@ module _ (text : Octets) where
           (drop (prefix_len is_blank (o ∷ rest)) (o ∷ rest)) words lines
       by_case false e = rw e so
       by_case true e = subst (λ t. EntrySoFar is_open t words lines) (blank-first o rest e)
-          (subst (λ ws. EntrySoFar is_open (drop (prefix_len is_blank rest) rest) ws lines)
-          (append-nil words) (token-read is_open is_open (o ∷ rest)
-          (drop (prefix_len is_blank rest) rest) blank words lines lines so (rw e refl) refl
-          (omega arith)))
-
-  -- the token that ends the entry is read
-  pub entry-ended : (is_open : Bool) (rest : Octets) (p : Token) (words : List Word)
-      (ending : Ending) (lines lines' : ℕ) → EntrySoFar is_open rest words lines → Reads is_open rest (p ∷ []) ending
-      → lines' ≡ lines + line_ends (p ∷ [])
-      → EntryRead text (words ++ token_words (p ∷ [])) lines' ending
-  entry-ended is_open rest p words ending lines lines' so reads l =
-      record {
-        tokens = so.tokens ++ p ∷ [];
-        reads = so.whole (p ∷ []) ending reads;
-        words_are = ap (λ x. x ++ token_words (p ∷ [])) so.same_words
-            ∙ sym (words-append so.tokens (p ∷ []));
-        counted =
-            l ∙ ap (λ n. n + line_ends (p ∷ [])) so.counted ∙ sym (lines-append so.tokens (p ∷ []));
-      }
-
-  -- the entry is over if no token begins the rest
-  pub entry-unended : (is_open : Bool) (rest : Octets) (words words' : List Word) (lines : ℕ)
-      → EntrySoFar is_open rest words lines → token_front rest ≡ None → words' ≡ words
-      → EntryRead text words' lines (at_stop is_open rest)
-  entry-unended is_open rest words words' lines so none w =
-      record {
-        tokens = so.tokens;
-        reads = subst (λ xs. Reads false text xs (at_stop is_open rest))
-            (append-nil so.tokens) (so.whole [] (at_stop is_open rest) (none, refl));
-        words_are = w ∙ so.same_words;
-        counted = so.counted;
-      }
+          (token-read is_open (o ∷ rest) words lines so is_open
+          (drop (prefix_len is_blank rest) rest) blank words lines (rw e refl)
+          (refl, refl, refl) (other-passed most words _ blank so.stored refl) (omega arith))

@@ -3,7 +3,7 @@ pub mod RunLemmas
 pub mod RunTable
 pub mod EntryLoop
 pub mod Refusals
-pub mod EntryCuts
+pub mod EntryFacts
 pub mod TextSteps
 pub mod CappedWords
 pub mod PieceSteps

@@ -1,30 +1,12 @@
 -- What a prefix of a text decides holds however the text goes on.
-use Rattle.dns_master.proofs.Common.{◌≡◌, ℕ, ◌-◌, ◌≤◌, ◌⊎◌, inl, inr, Option, None, Some, Bool, true, false, AllGive, Knows, KindGives, EntryKind, kind_of, gives, List, [], ◌∷◌, ◌++◌, length, length-append, append-nil, append_assoc, refl, sym, ap, ◌∙◌, subst, arith, Octets, DomainName, FileFault, too_long, unwrap_or, false≢true, ResourceRecord, Meaning, records, fault_at, after, EntriesMean, Word, Token, Entry, extent_by, with_end, cut_entries, beginning, stop_at, stop_fault, beginning_decides, tokens_cut, TextMeans, EntryRead, IsWhole, Reads, ending_of, ReaderMeans, MayFollow, FrontTaken, FrontFaulty, FrontAdded, TextAdded, PieceTaken, AppendsPiece, Reader}
+use Rattle.dns_master.proofs.Common.{◌≡◌, ℕ, ◌-◌, ◌≤◌, inl, inr, Option, None, Some, Bool, true, false, AllGive, Knows, KindGives, EntryKind, kind_of, gives, List, [], ◌∷◌, ◌++◌, length, length-append, append-nil, append_assoc, refl, sym, ap, ◌∙◌, subst, arith, Octets, DomainName, FileFault, too_long, unwrap_or, ResourceRecord, Meaning, records, fault_at, after, Entry, extent_by, beginning_decides, ReaderMeans, MayFollow, FrontTaken, FrontFaulty, FrontAdded, TextAdded, PieceTaken, AppendsPiece, Reader}
+unfoldable use Rattle.dns_master.proofs.Common.{TextMeans}
 use Rattle.dns_spec.specs.AllFaults.{LookBack}
-use Rattle.dns_spec.specs.EntryPlaces.{at_stop}
 use Rattle.dns_spec.proofs.ZoneTexts.SomeMeaning.{Known, known_more, nothing_known, sort_sure}
 use Rattle.dns_master.specs.EarlierForm.{LooksBack, Passed}
 use Rattle.dns_master.specs.TakeForm.{KindOwn}
-use Rattle.dns_master.proofs.EntryCuts.{reads-more}
-use Rattle.dns_master.proofs.TextSteps.{over-at_end, nothing-means, past-means}
+use Rattle.dns_master.proofs.TextSteps.{nothing-means, past-means}
 use Rattle.dns_master.proofs.EntriesLoop.{after-nil, after-append}
-
--- a fault of a prefix, other than TooLong, is a fault of every text that begins with the prefix
-pub decided-means : (o : DomainName) (earlier : List Entry) (text more : Octets) (goes_on : Bool)
-    (fault : FileFault) (line : ℕ) → TextMeans o earlier true text (fault_at fault line)
-    → (fault ≡ too_long → ⊥) → TextMeans o earlier goes_on (text ++ more) (fault_at fault line)
-decided-means o earlier text more goes_on fault line h other =
-    let es = with_end beginning h.rest (cut_entries false h.tokens) in
-    let are = tokens_cut beginning text h.tokens h.rest h.spelled h.at_end in
-    let found = beginning_decides o earlier (extent_by goes_on) text more fault line
-    (es, are, h.meant) other in
-    record {
-      tokens = found.1.tokens;
-      rest = found.1.rest;
-      spelled = found.1.spelled;
-      at_end = found.1.at_end;
-      meant = subst (λ es. EntriesMean o earlier es (fault_at fault line)) found.1.entries found.2;
-    }
 
 -- entries without a fault state valid TTLs
 sound-known : (o : DomainName) (earlier : List Entry) → AllGive o earlier → Known earlier
@@ -55,51 +37,16 @@ taken-known o earlier e rs new sound own p =
     by_back (inl (some, is)) = subst (λ es. LooksBack o es new.earlier) is p.known
     by_back (inr (none, is)) = absurd (own.origin none)
 
--- a complete entry remains the same however the text goes on
-module _ (goes_on : Option Bool)
-    (more : Octets) (past : Bool) (text rest : Octets) (words : List Word) (lines : ℕ) where
-  pub whole-on : (is_ended is_open : Bool) (ps : List Token) → MayFollow goes_on more past → IsWhole
-      goes_on is_ended is_open rest → Reads false text ps (ending_of is_ended is_open rest)
-      → Reads false (text ++ more) ps (ending_of is_ended is_open (rest ++ more))
-      × ((is_ended ≡ true) ⊎ (stop_fault (extent_by past) is_open (stop_at (rest ++ more)) ≡ None))
-  whole-on true is_open ps may whole reads = (reads-more more false text ps rest reads, inl refl)
-  whole-on false is_open ps may (inl e) reads = absurd (false≢true e)
-  whole-on false is_open ps may (inr e) reads = known-on goes_on may e
-    where
-      known-on : (goes_on' : Option Bool) → MayFollow goes_on' more past
-          → stop_fault (extent_by (unwrap_or goes_on' true)) is_open (stop_at rest) ≡ None
-          → Reads false (text ++ more) ps (at_stop is_open (rest ++ more))
-          × ((false ≡ true) ⊎ (stop_fault (extent_by past) is_open (stop_at (rest ++ more)) ≡ None))
-      known-on None may e = absurd (false≢true (sym (over-at_end true is_open rest e).1))
-      known-on (Some known) may e = (
-        subst (λ x. Reads false (text ++ x) ps (at_stop is_open (rest ++ x)))
-            (sym may.0) (rw (append-nil text) (rw (append-nil rest) reads)),
-        inr (rw may.0 (rw (append-nil rest) (rw may.1 e))),
-      )
-
-  abbrev pub entry-on : (is_ended is_open : Bool) → MayFollow goes_on more past → IsWhole goes_on
-      is_ended is_open rest → (read : EntryRead text words lines (ending_of is_ended is_open rest))
-      → (read' : EntryRead (text ++ more) words lines (ending_of is_ended is_open (rest ++ more)))
-      × ((is_ended ≡ true) ⊎ (stop_fault (extent_by past) is_open (stop_at (rest ++ more)) ≡ None))
-  entry-on is_ended is_open may whole read =
-      let on = whole-on is_ended is_open read.tokens may whole read.reads in (
-        record {
-          tokens = read.tokens;
-          reads = on.0;
-          words_are = read.words_are;
-          counted = read.counted;
-        },
-        on.1,
-      )
-
 -- a fault at the end of an entry is the fault of the whole text; while it is unknown whether the
 -- text goes on, TooLong is no such fault
 pub end-faulty : (goes_on : Option Bool) (o : DomainName) (earlier : List Entry)
     (text more : Octets) (past : Bool) (fault : FileFault) (line : ℕ) → MayFollow goes_on more past
-    → TextMeans o earlier (unwrap_or goes_on true) text (fault_at fault line) → (goes_on ≡ None
-    → fault ≡ too_long → ⊥) → TextMeans o earlier past (text ++ more) (fault_at fault line)
+    → TextMeans o earlier (unwrap_or goes_on true) text (fault_at fault line)
+    → (goes_on ≡ None → fault ≡ too_long → ⊥)
+    → TextMeans o earlier past (text ++ more) (fault_at fault line)
+unfolding TextMeans
 end-faulty None o earlier text more past fault line may h other =
-    decided-means o earlier text more past fault line h (other refl)
+    beginning_decides o earlier (extent_by past) text more fault line h (other refl)
 end-faulty (Some known) o earlier text more past fault line may h other =
     rw may.0 (rw (append-nil text) (rw may.1 h))
 

@@ -6,11 +6,6 @@ pub refused : (code : ReadCode) (P : FileFault → Type 0)
     → code_number code ≤ 15 → P (fault_of code) → ForFault code P
 refused code P low h = record { told = λ _. h; source = λ e. omega (arith, low, ap code_number e) }
 
--- from one property of a rejected entry's fault to another
-pub ForFault-map : (code : ReadCode) {P Q : FileFault → Type 0}
-    → ((fault : FileFault) → P fault → Q fault) → ForFault code P → ForFault code Q
-ForFault-map code f h = grind (arith, fault_of)
-
 -- from the fault of a rejected entry to the fault of the file
 pub entry-told : (code : ReadCode) (line : ℕ) (f : ReadFault) (P : FileFault → ℕ → Type 0)
     → IsFaultOn line code f → ForFault code (λ fault. P fault line) → OfEntry P f

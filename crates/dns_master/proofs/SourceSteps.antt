@@ -1,5 +1,6 @@
 -- A source's octets, read piece by piece.
-use Rattle.dns_master.proofs.Common.{◌≡◌, ℕ, ◌+◌, ◌≤◌, ◌<◌, ◌⊎◌, inl, inr, Bool, true, false, List, [], ◌++◌, length, take, nat_lt, length-append, append-nil, append_assoc, refl, sym, ap, ◌∙◌, subst, arith, Option, Some, None, take_all, take_at, Consumes, IsAtEnd, lt-ltb, le-ltb, Octets, DomainName, ResourceRecord, FileFault, Meaning, Means, records, fault_at, after, TextMeans, ReaderMeans, TextAdded, PieceTaken, PieceFaulty, Reader, ReadFault, Result, IfErr, IfErr-weaker, fault_handed_on, AppendsPiece, Decides, IsRead, ReadsFile, OfEntry, OfFile, code_number, fault_of, failures_after_read}
+use Rattle.dns_master.proofs.Common.{◌≡◌, ℕ, ◌+◌, ◌≤◌, ◌⊎◌, inl, inr, Bool, true, false, List, [], ◌++◌, length, take, nat_lt, length-append, append-nil, append_assoc, refl, sym, ap, ◌∙◌, subst, arith, Option, Some, None, take_all, take_at, Consumes, IsAtEnd, lt-ltb, le-ltb, Octets, DomainName, ResourceRecord, FileFault, Meaning, Means, records, fault_at, after, TextMeans, ReaderMeans, TextAdded, PieceTaken, PieceFaulty, Reader, ReadFault, Result, IfErr, IfErr-weaker, fault_handed_on, AppendsPiece, Decides, IsRead, ReadsFile, OfEntry, OfFile, code_number, fault_of, failures_after_read}
+use Rattle.std.proofs.Common.{subst₂}
 use Rattle.std.specs.Prelude.{IfOk, IsErrAnd, Ok, Err}
 use Rattle.std.proofs.lemmas.Result.{IfOk-weaker}
 use Rattle.dns_name.specs.Counted.{Counted}
@@ -32,23 +33,16 @@ module _ (old mid new : Option Octets) (o : DomainName) (r : Reader) (held : Oct
       (held' : Octets) (left' : ℕ) (more : Bool) (found' : List ResourceRecord) → PieceTaken mid
       new r held left r' held' left' more found found' → GivenSoFar old new o r' held' left' found'
   piece-given r' held' left' more found' p =
-      let given : Octets = so.given ++ p.came in
       record {
-        given = given;
-        consumed = Consumes-more old mid new so.given p.came given so.consumed p.consumed refl;
+        given = so.given ++ p.came;
+        consumed = Consumes-more old mid new so.given p.came _ so.consumed p.consumed refl;
         size = omega (arith, length-append so.given p.came, so.size, p.size);
         means = λ rest goes_on later h.
-            let step : ReaderMeans r goes_on (held ++ (p.came ++ rest)) (after p.added.came
-            later) = subst (λ x. ReaderMeans r goes_on x (after p.added.came later))
-            (append_assoc held p.came rest) (p.added.taken rest goes_on later tt h) in
-            let all : TextMeans o [] goes_on
-            (so.given ++ (p.came ++ rest)) (after found (after p.added.came later)) =
-            so.means (p.came ++ rest) goes_on (after p.added.came later) step in
-            subst (λ rs. TextMeans o [] goes_on (given ++ rest) (after rs later))
-            (sym p.added.grown)
-            (subst (TextMeans o [] goes_on (given ++ rest)) (after-append
-            found p.added.came later) (subst (λ x. TextMeans o [] goes_on x (after found
-            (after p.added.came later))) (sym (append_assoc so.given p.came rest)) all));
+            subst₂ (TextMeans o [] goes_on) (sym (append_assoc so.given p.came rest))
+            (after-append found p.added.came later ∙ ap (λ rs. after rs later) (sym p.added.grown))
+            (so.means (p.came ++ rest) goes_on (after p.added.came later)
+            (subst (λ x. ReaderMeans r goes_on x (after p.added.came later))
+            (append_assoc held p.came rest) (p.added.taken rest goes_on later tt h)));
       }
 
   -- a fault that a piece decides is decided by all octets read so far
@@ -58,38 +52,42 @@ module _ (old mid new : Option Octets) (o : DomainName) (r : Reader) (held : Oct
       let given : Octets = so.given ++ p.came in
       let size : length given ≡ length so.given + length p.came = length-append so.given p.came in
       record {
-        given = so.given ++ p.came;
+        given = given;
         consumed = Consumes-more old mid new so.given p.came given so.consumed p.consumed refl;
         few = omega (arith, size, so.size, p.few);
         decided = inr (λ rest.
-            (let found_rest = looked_at 16777216 given rest (omega (arith, size, so.size, p.few)) in
+            (let seen = looked_at 16777216 given rest (omega (arith, size, so.size, p.few)) in
             let goes_on : Bool = nat_lt 16777216 (length (given ++ rest)) in
-            let step : ReaderMeans r goes_on (held ++ (p.came ++ found_rest.0))
-            (fault_at fault line) = subst (λ x. ReaderMeans r goes_on x (fault_at fault line))
-            (append_assoc held p.came found_rest.0) (p.is_faulty found_rest.0 goes_on tt) in
-            looked-means o (given ++ rest)
-            (given ++ found_rest.0) goes_on (fault_at fault line) (sym found_rest.1) refl
+            looked-means o (given ++ rest) (given ++ seen.0) goes_on _ (sym seen.1) refl
             (subst (λ x. TextMeans o [] goes_on x (fault_at fault line))
-            (sym (append_assoc so.given p.came found_rest.0))
-            (so.means (p.came ++ found_rest.0) goes_on (fault_at fault line) step))));
+            (sym (append_assoc so.given p.came seen.0))
+            (so.means (p.came ++ seen.0) goes_on (fault_at fault line)
+            (subst (λ x. ReaderMeans r goes_on x (fault_at fault line))
+            (append_assoc held p.came seen.0) (p.is_faulty seen.0 goes_on tt))))));
       }
 
+  -- what the octets read so far mean, if no others follow that are examined
+  all-means : (goes_on : Bool) (m : Meaning) → ReaderMeans r goes_on held m
+      → TextMeans o [] goes_on so.given (after found m)
+  all-means goes_on m h =
+      subst (λ x. TextMeans o [] goes_on x (after found m)) (append-nil so.given)
+      (so.means [] goes_on m
+      (subst (λ x. ReaderMeans r goes_on x m) (sym (append-nil held)) h))
+
   -- the meaning of the held octets when the source is at its end
-  pub end-given : (m : Meaning)
-      → IsAtEnd mid → ReaderMeans r false held m → Decides old mid o (after found m)
-  end-given m over h =
+  pub end-given : (end : Option Octets) (m : Meaning) → Consumes old end so.given → IsAtEnd end
+      → ReaderMeans r false held m → Decides old end o (after found m)
+  end-given end m consumed over h =
       let few : length so.given ≤ 16777216 = omega (arith, so.size) in
       record {
         given = so.given;
-        consumed = so.consumed;
+        consumed = consumed;
         few = omega (arith, few);
         decided = inl (
           over,
           looked-means o so.given so.given false (after found m)
               (sym (take_all 16777216 so.given few)) (sym (le-ltb 16777216 (length so.given) few))
-              (subst (λ x. TextMeans o [] false x (after found m)) (append-nil so.given)
-              (so.means
-              [] false m (subst (λ x. ReaderMeans r false x m) (sym (append-nil held)) h))),
+              (all-means false m h),
         );
       }
 
@@ -101,39 +99,28 @@ module _ (old mid new : Option Octets) (o : DomainName) (r : Reader) (held : Oct
       let given : Octets = so.given ++ more.came in
       let size : length given ≡ length so.given + length more.came =
       length-append so.given more.came in
-      let some : 0 < length more.came = more.some refl in
       record {
-        given = so.given ++ more.came;
+        given = given;
         consumed =
             Consumes-more old mid new so.given more.came given so.consumed more.consumed refl;
         few = omega (arith, size, so.size, more.short);
-        decided = inr (λ rest.
-            (let whole : length (given ++ rest) ≡ length given + length rest = length-append
-            given rest in looked-means o (given ++ rest) so.given true (after found m)
+        decided = inr (λ rest. looked-means o (given ++ rest) so.given true (after found m)
             (sym (ap (take 16777216) (append_assoc so.given more.came rest) ∙ take_at so.given
-            (more.came ++ rest) 16777216 (omega (arith, so.size, full)))) (sym (lt-ltb 16777216
-            (length (given ++ rest)) (omega (arith, whole, size, some, so.size, full))))
-            (subst (λ x. TextMeans o [] true x (after found m)) (append-nil so.given) (so.means
-            [] true m (subst (λ x. ReaderMeans r true x m) (sym (append-nil held)) h)))));
+            (more.came ++ rest) 16777216 (omega (arith, so.size, full))))
+            (sym (lt-ltb 16777216 (length (given ++ rest)) (omega (
+              arith,
+              length-append given rest,
+              size,
+              more.some refl,
+              so.size,
+              full,
+            )))) (all-means true m h));
       }
   limit-given false m full more h =
       let none = more.over refl in
-      let few : length so.given ≤ 16777216 = omega (arith, so.size) in
-      record {
-        given = so.given;
-        consumed = subst (Consumes old new) (ap (λ x. so.given ++ x) none.0 ∙ append-nil so.given)
-            (Consumes-more old mid new so.given more.came
-            (so.given ++ more.came) so.consumed more.consumed refl);
-        few = omega (arith, few);
-        decided = inl (
-          none.1,
-          looked-means o so.given so.given false (after found m)
-              (sym (take_all 16777216 so.given few)) (sym (le-ltb 16777216 (length so.given) few))
-              (subst (λ x. TextMeans o [] false x (after found m)) (append-nil so.given)
-              (so.means
-              [] false m (subst (λ x. ReaderMeans r false x m) (sym (append-nil held)) h))),
-        );
-      }
+      end-given new m (subst (Consumes old new) (ap (λ x. so.given ++ x) none.0
+      ∙ append-nil so.given) (Consumes-more old mid new so.given more.came _ so.consumed
+      more.consumed refl)) none.1 h
 
 -- a decided meaning is the meaning of all that the source gives
 is_read : (old new : Option Octets) (o : DomainName) (m : Meaning)

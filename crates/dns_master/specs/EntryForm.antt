@@ -1,42 +1,38 @@
--- How the code reads the tokens of an entry from left to right, and what the rest of a text means
--- from the start of one of its entries.
-use Rattle.std.specs.Prelude.{◌≡◌, ℕ, ◌⊎◌, Option, Bool, true, false, List, [], ◌∷◌, length, if◌then◌else◌, Some, None}
+-- What reading an entry finds.
+use Rattle.std.specs.Prelude.{◌≡◌, ℕ, ◌+◌, ◌≤◌, Option, Bool, true, false, ◌&&◌, not, List, length, map, take, None}
 use Rattle.std.specs.List.{filter, filter_map}
 use Rattle.std.specs.Option.{unwrap_or}
-use Rattle.dns_spec.specs.Names.{Octets, DomainName}
+use Rattle.dns_spec.specs.Names.{Octets}
 use Rattle.dns_spec.specs.DataText.{Word}
-use Rattle.dns_spec.specs.ZoneText.{Token, blank, comment, word, quoted_string, opening, closing, line_end, Entry, token_front, TokensThen, cut_entries, with_end, is_line_end, word_of, extent_by, stop_at, stop_fault}
-use Rattle.dns_spec.specs.EntryPlaces.{Ending, after_line, at_parenthesis, at_stop}
-use Rattle.dns_spec.specs.Meaning.{Meaning, EntriesMean}
+use Rattle.dns_spec.specs.ZoneText.{Token, is_line_end, open_after, word_of, extent_by}
+use Rattle.dns_spec.specs.EntryPlaces.{PlacedToken, after_line, at_parenthesis, at_stop, is_misplaced, read_entry, ending_fault}
+use Rattle.dns_spec.specs.EntryPlaces as places
+use Rattle.dns_master.specs.declared.entry.Ending.{Ending}
+use Rattle.dns_master.specs.declared.entry.Ending.TheVariants.{AfterLine, AtParenthesis, AtStop}
+use Rattle.dns_master.specs.declared.entry.Step.{Step}
+use Rattle.dns_master.specs.declared.entry.Step.TheVariants.{Misplaced, Over, Onward}
 
--- What follows a token: nothing, because the token is a misplaced parenthesis or ends the entry; or
--- more tokens, inside (true) or outside parentheses.
-pub data Step : Type 0 where
-  misplaced : Step
-  over : Step
-  onward : Bool → Step
+-- the step after a token that is read inside (true) or outside parentheses
+abbrev pub StepIs : Bool → Token → Step → Type 0
+StepIs is_open p Misplaced = is_misplaced is_open p ≡ true
+StepIs is_open p Over = (is_misplaced is_open p ≡ false) × ((is_line_end p && not is_open) ≡ true)
+StepIs is_open p (Onward now_open) =
+    (is_misplaced is_open p ≡ false) × ((is_line_end p && not is_open) ≡ false)
+    × (open_after is_open p ≡ now_open)
 
--- what follows a token that is read inside (true) or outside parentheses
-abbrev pub step : Bool → Token → Step
-step is_open blank = onward is_open
-step is_open comment = onward is_open
-step is_open (word raw) = onward is_open
-step is_open (quoted_string raw) = onward is_open
-step is_open opening = if is_open then misplaced else onward true
-step is_open closing = if is_open then onward false else misplaced
-step is_open line_end = if is_open then onward true else over
+-- an ending, as the definitions have it
+abbrev pub shown_ending : Ending → places.Ending
+shown_ending (AfterLine rest) = after_line rest.now
+shown_ending (AtParenthesis place) = at_parenthesis place.now
+shown_ending (AtStop is_open rest) = at_stop is_open rest.now
 
 -- the remaining tokens of an entry, read from a text inside (true) or outside parentheses, and how
--- reading ends
-abbrev pub Reads : Bool → Octets → List Token → Ending → Type 0
-Reads is_open text [] ending = (token_front text ≡ None) × (ending ≡ at_stop is_open text)
-Reads is_open text (p ∷ ps) ending =
-    (others : Octets) × (token_front text ≡ Some (p, others))
-    × elim (step is_open p) [
-      | misplaced ↦ (ps ≡ []) × (ending ≡ at_parenthesis text)
-      | over ↦ (ps ≡ []) × (ending ≡ after_line others)
-      | onward now_open ↦ Reads now_open others ps ending
-    ]
+-- reading ends; how many octets precede the text makes no difference
+abbrev pub Reads : Bool → Octets → List Token → places.Ending → Type 0
+Reads is_open text ps ending =
+    (before k : ℕ) → length text ≤ k
+    → (map (λ (p : PlacedToken). p.token) (read_entry k is_open before text).0 ≡ ps)
+    × ((read_entry k is_open before text).1 ≡ ending)
 
 abbrev pub token_words : List Token → List Word
 token_words = filter_map word_of
@@ -44,41 +40,22 @@ token_words = filter_map word_of
 abbrev pub line_ends : List Token → ℕ
 line_ends ps = length (filter is_line_end ps)
 
--- an entry was read: its words, the number of its line ends, and how it ended
-pub record EntryRead (text : Octets) (words : List Word) (lines : ℕ)
-    (ending : Ending) : Type 0 where
-  pub tokens : List Token
-  pub reads : Reads false text tokens ending
-  pub words_are : words ≡ token_words tokens
-  pub counted : lines ≡ line_ends tokens
-
 -- the text at which reading an entry ends
-abbrev pub rest_in : Ending → Octets
+abbrev pub rest_in : places.Ending → Octets
 rest_in (after_line rest) = rest
 rest_in (at_parenthesis place) = place
 rest_in (at_stop is_open rest) = rest
 
--- how reading an entry without a misplaced parenthesis ends: after its line end, or before a stop
-abbrev pub ending_of : Bool → Bool → Octets → Ending
-ending_of is_ended is_open rest = if is_ended then after_line rest else at_stop is_open rest
-
--- an entry is complete: it ends with a line end, or without a fault at the end of the text
-abbrev pub IsWhole : Option Bool → Bool → Bool → Octets → Type 0
-IsWhole goes_on is_ended is_open rest =
-    (is_ended ≡ true)
-    ⊎ (stop_fault (extent_by (unwrap_or goes_on true)) is_open (stop_at rest) ≡ None)
+-- an entry was read: its first `most` words, the number of its line ends, and how it ended
+pub record EntryRead (text : Octets) (most : ℕ) (words : List Word) (lines : ℕ)
+    (ending : places.Ending) : Type 0 where
+  pub tokens : List Token
+  pub reads : Reads false text tokens ending
+  pub stored : words ≡ take most (token_words tokens)
+  pub counted : lines ≡ line_ends tokens
+  pub bound : length (token_words tokens) + lines + length (rest_in ending) ≤ length text
 
 -- an entry is complete, and `rest` follows it
-abbrev pub WholeBefore : Option Bool → Ending → Octets → Type 0
+abbrev pub WholeBefore : Option Bool → places.Ending → Octets → Type 0
 WholeBefore goes_on ending rest =
-    (is_ended : Bool) × (is_open : Bool) × (ending ≡ ending_of is_ended is_open rest)
-    × IsWhole goes_on is_ended is_open rest
-
--- what a text means from an entry on, after the earlier entries
-pub record TextMeans (o : DomainName) (earlier : List Entry) (goes_on : Bool) (text : Octets)
-    (m : Meaning) : Type 0 where
-  pub tokens : List Token
-  pub rest : Octets
-  pub spelled : TokensThen text tokens rest
-  pub at_end : token_front rest ≡ None
-  pub meant : EntriesMean o earlier (with_end (extent_by goes_on) rest (cut_entries false tokens)) m
+    (ending_fault (extent_by (unwrap_or goes_on true)) ending ≡ None) × (rest_in ending ≡ rest)

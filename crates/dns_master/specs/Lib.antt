@@ -1,8 +1,6 @@
 pub mod Codes
 pub mod TokenForm
 pub mod EntryForm
-pub mod EntryFound
-pub mod Steps
 pub mod RecordForm
 pub mod SourceForm
 pub mod PieceForm

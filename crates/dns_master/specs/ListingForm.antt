@@ -1,7 +1,7 @@
 -- The faults of a text as the code lists them, and the reading of one entry.
 use Rattle.std.specs.Prelude.{◌≡◌, ℕ, ◌-◌, ◌≤◌, List, ◌∷◌, length, false}
 use Rattle.dns_spec.specs.Names.{Octets, DomainName}
-use Rattle.dns_spec.specs.ZoneText.{Entry}
+use Rattle.dns_spec.specs.ZoneText.{Entry, entry_words}
 use Rattle.dns_spec.specs.Records.{ResourceRecord}
 use Rattle.dns_spec.specs.FileFaults.{FileFault, no_owner, too_many_records}
 use Rattle.dns_spec.specs.Meaning.{Nothing, OriginIs}
@@ -11,8 +11,8 @@ use Rattle.dns_spec.specs.AllFaults.{place_after, HasFault, GivesOwn, EntriesGiv
 use Rattle.dns_spec.specs.AllFaults as all
 use Rattle.dns_master.specs.Codes.{fault_of}
 use Rattle.dns_master.specs.EarlierForm.{LooksBack, Passed, handed}
-use Rattle.dns_master.specs.EntryFound.{shown_ending}
-use Rattle.dns_master.specs.PlaceForm.{shown_place, words_read}
+use Rattle.dns_master.specs.EntryForm.{shown_ending}
+use Rattle.dns_master.specs.PlaceForm.{shown_place}
 use Rattle.dns_master.specs.declared.earlier.Earlier.{Earlier}
 use Rattle.dns_master.specs.declared.scanned.EntryFault.{EntryFault}
 use Rattle.dns_master.specs.declared.scanned.ScannedEntry.{ScannedEntry}
@@ -28,17 +28,17 @@ entry_read total text = read_entry (length text) false (total - length text) tex
 abbrev pub entry_at : ℕ → Octets → Octets → PlacedEntry
 entry_at total past text = placed_entry total past text (entry_read total text)
 
--- The entry that begins `rest` was read: its words, and how reading it ends. `rest` is the end of
--- the examined octets of the file.
-pub record EntryScanned (s : ScannedEntry) : Type 0 where
-  pub words_are : words_read (entry_read (length s.octets.now) s.rest.now).0 ≡ s.words.now
-  pub ending_is : (entry_read (length s.octets.now) s.rest.now).1 ≡ shown_ending s.read.ending
-  pub short : length s.rest.now ≤ length s.octets.now
-  pub few : length s.octets.now ≤ 16777216
-
 -- the entry that was read, as the definitions have it
 abbrev pub placed : ScannedEntry → PlacedEntry
 placed s = entry_at (length s.octets.now) s.past.now s.rest.now
+
+-- The entry that begins `rest` was read: its words, and how reading it ends. `rest` is the end of
+-- the examined octets of the file.
+pub record IsScanned (s : ScannedEntry) : Type 0 where
+  pub words_are : entry_words (placed s).entry ≡ s.words.now
+  pub ending_is : (entry_read (length s.octets.now) s.rest.now).1 ≡ shown_ending s.ending
+  pub short : length s.rest.now ≤ length s.octets.now
+  pub few : length s.octets.now ≤ 16777216
 
 -- the place of a fault that is not lexical, if `i` words precede the one at fault
 abbrev pub spot_by : FileFault → ℕ → ScannedEntry → places.Span
@@ -75,5 +75,5 @@ Judges k e last (Faulty f) =
 -- an entry that was read is passed, after any earlier entries that lead to `old`
 abbrev pub PassesEntry : Earlier → ScannedEntry → Earlier → Type 0
 PassesEntry old s new =
-    EntryScanned s → (o : DomainName) (earlier : List Entry) → LooksBack o earlier old
+    IsScanned s → (o : DomainName) (earlier : List Entry) → LooksBack o earlier old
     → Passed o earlier (placed s).entry new

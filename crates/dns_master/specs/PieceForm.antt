@@ -4,9 +4,9 @@ use Rattle.std.specs.Io.KnownBytes.{Consumes, IsAtEnd}
 use Rattle.dns_spec.specs.Names.{Octets, DomainName}
 use Rattle.dns_spec.specs.Records.{ResourceRecord}
 use Rattle.dns_spec.specs.FileFaults.{FileFault}
-use Rattle.dns_spec.specs.ZoneText.{Entry}
+use Rattle.dns_spec.specs.ZoneText.{Entry, extent_by}
 use Rattle.dns_spec.specs.Meaning.{Meaning, records, fault_at, after, line_after, KindGives, gives, kind_of}
-use Rattle.dns_master.specs.EntryForm.{TextMeans}
+use Rattle.dns_spec.specs.Laws.{OctetsMean}
 use Rattle.dns_master.specs.EarlierForm.{LooksBack}
 use Rattle.dns_master.specs.declared.reader.Reader.{Reader}
 
@@ -20,6 +20,10 @@ AllGive o (e ∷ earlier) =
 pub record Knows (o : DomainName) (earlier : List Entry) (r : Reader) : Type 0 where
   pub sound : AllGive o earlier
   pub back : LooksBack o earlier r.earlier
+
+-- what a text means from an entry on, after the earlier entries
+unfoldable pub TextMeans : DomainName → List Entry → Bool → Octets → Meaning → Type 0
+TextMeans o earlier goes_on text m = OctetsMean o earlier (extent_by goes_on) text m
 
 -- the meaning of a text after the entries that the reader knows
 abbrev pub ReaderMeans : Reader → Bool → Octets → Meaning → Type 0

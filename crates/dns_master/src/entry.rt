@@ -6,9 +6,7 @@ ghost use Rattle.dns_spec.specs.FileFaults.{too_long};
 ghost use Rattle.dns_spec.specs.ZoneText.{is_cut_short, extent_by, stop_at, stop_fault, string_fault, token_fault, unless_cut_short, word_of};
 ghost use Rattle.dns_spec.specs.EntryPlaces.{ending_fault};
 ghost use Rattle.dns_master.specs.TokenForm.{shown_token};
-ghost use Rattle.dns_master.specs.EntryForm.{WholeBefore, step};
-ghost use Rattle.dns_master.specs.EntryFound.{EntryFound, shown_ending};
-ghost use Rattle.dns_master.specs.Steps.{shown_step};
+ghost use Rattle.dns_master.specs.EntryForm.{EntryRead, StepIs, WholeBefore, shown_ending};
 ghost use Rattle.dns_master.specs.Codes.{ForFault, fault_of};
 
 use crate::read_fault::ReadCode;
@@ -34,24 +32,17 @@ pub(crate) enum Ending<'a> {
     AtStop(bool, &'a [u8]),
 }
 
-/// What reading an entry finds besides its words.
-#[derive(Clone, Copy)]
-pub(crate) struct EntryScan<'a> {
-    /// The number of line ends in the entry.
-    pub(crate) lines: u32,
-    /// How reading the entry ends.
-    pub(crate) ending: Ending<'a>,
-}
-
 /// Reads the entry that begins a text, up to its end or its lexical fault. Stores its words in
-/// `words`, but no more than the first `most`.
+/// `words`, but no more than the first `most`. Returns the number of its line ends, and how reading
+/// it ends.
 pub(crate) fn read_entry<'a>(
     text: &'a [u8],
     most: usize,
     words: &mut Vec<Word<'a>>,
-) -> Result<EntryScan<'a>, AllocError>
+) -> Result<(u32, Ending<'a>), AllocError>
     requires { length text.now ≤ 16777217 }
-    ensures { IfOk result (λ scan. EntryFound text.now most words.new.items scan) }
+    ensures { IfOk result (λ found. EntryRead text.now most words.new.items found.0
+        (shown_ending found.1)) }
 {
     words.clear();
     let (mut lines, mut is_open, mut rest) = (0, false, text);
@@ -65,20 +56,13 @@ pub(crate) fn read_entry<'a>(
         }
         lines += u32::from(matches!(token, Token::LineEnd));
         match step_after(token, is_open) {
-            Progress::Misplaced => {
-                let ending = Ending::AtParenthesis(rest);
-                return Ok(EntryScan { lines, ending });
-            }
-            Progress::Over => {
-                let ending = Ending::AfterLine(others);
-                return Ok(EntryScan { lines, ending });
-            }
-            Progress::Onward(now_open) => is_open = now_open,
+            Step::Misplaced => return Ok((lines, Ending::AtParenthesis(rest))),
+            Step::Over => return Ok((lines, Ending::AfterLine(others))),
+            Step::Onward(now_open) => is_open = now_open,
         }
         rest = others;
     }
-    let ending = Ending::AtStop(is_open, rest);
-    Ok(EntryScan { lines, ending })
+    Ok((lines, Ending::AtStop(is_open, rest)))
 }
 
 /// The word that a token is, if it is a word or a quoted string.
@@ -95,22 +79,23 @@ pub(crate) fn word_of(token: Token<'_>) -> Option<Word<'_>>
 // What follows a token: nothing, because the token is a misplaced parenthesis or ends the entry; or
 // more tokens, inside (true) or outside parentheses.
 #[derive(Clone, Copy)]
-pub(crate) enum Progress {
+pub(crate) enum Step {
     Misplaced,
     Over,
     Onward(bool),
 }
 
-pub(crate) fn step_after(token: Token<'_>, is_open: bool) -> Progress
-    ensures { shown_step result ≡ step is_open (shown_token token.entry) }
+#[tactic(auto, using(crate::proofs::EntryFacts::opening_misplaced, crate::proofs::EntryFacts::closing_misplaced))]
+pub(crate) fn step_after(token: Token<'_>, is_open: bool) -> Step
+    ensures { StepIs is_open (shown_token token.entry) result }
 {
     match token {
-        Token::Opening if is_open => Progress::Misplaced,
-        Token::Opening => Progress::Onward(true),
-        Token::Closing if is_open => Progress::Onward(false),
-        Token::Closing => Progress::Misplaced,
-        Token::LineEnd if !is_open => Progress::Over,
-        _ => Progress::Onward(is_open),
+        Token::Opening if is_open => Step::Misplaced,
+        Token::Opening => Step::Onward(true),
+        Token::Closing if is_open => Step::Onward(false),
+        Token::Closing => Step::Misplaced,
+        Token::LineEnd if !is_open => Step::Over,
+        _ => Step::Onward(is_open),
     }
 }
 

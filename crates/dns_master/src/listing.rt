@@ -2,7 +2,7 @@
 ghost use Rattle.std.specs.Prelude.{◌≡◌, ◌-◌, ◌^◌, ◌<◌, ◌≤◌, ◌++◌, ◌+◌, [], ◌∷◌, List, length, IfErr, IfOk, OnOk, ◌⊎◌};
 ghost use Rattle.dns_spec.specs.AllFaults as all;
 ghost use Rattle.dns_master.specs.Codes.{failures_after_read, fault_of};
-ghost use Rattle.dns_master.specs.ListingForm.{EntryScanned, shown_fault};
+ghost use Rattle.dns_master.specs.ListingForm.{IsScanned, shown_fault};
 ghost use Rattle.dns_master.specs.EarlierForm.{LooksBack};
 ghost use Rattle.dns_master.specs.FaultListForm.{IsList, ListsOctets, ListsText, ReadsOctets, TakesEntry};
 
@@ -117,18 +117,18 @@ fn list_octets<C: RecordCollection>(
     let mut left = octets.len() + 1;
     'entries: while left > 0 {
         left -= 1;
-        let read = read_entry(rest, usize::MAX, &mut words)?;
+        let (_, ending) = read_entry(rest, usize::MAX, &mut words)?;
         let entry = ScannedEntry {
             octets,
             past,
             rest,
             words: words.as_slice(),
-            read,
+            ending,
         };
         if !listing.take(&entry, &mut buffers, collection)? {
             return Ok(listing.list);
         }
-        match text_after(read.ending) {
+        match text_after(ending) {
             Some(after) => rest = after,
             None => return Ok(listing.list),
         }
@@ -162,7 +162,7 @@ impl Listing {
         buffers: &mut DataBuffers,
         collection: &mut C,
     ) -> Result<bool, AllocError>
-        requires { EntryScanned entry.now }
+        requires { IsScanned entry.now }
         ensures { IfOk result (λ goes_on. TakesEntry self.old entry.now
             (C.records collection.old) self.new (C.records collection.new) goes_on) }
     {

@@ -3,8 +3,7 @@ ghost use Rattle.std.specs.Prelude.{◌≡◌, ◌≤◌, length, IfSome, Some, 
 ghost use Rattle.dns_spec.specs.ZoneText.{stop_at};
 ghost use Rattle.dns_spec.specs.EntryPlaces.{empty_place, octet_place, stop_octets, next_line, end_octets, fault_place, text_after};
 ghost use Rattle.dns_master.specs.Codes.{fault_of};
-ghost use Rattle.dns_master.specs.EntryForm.{rest_in};
-ghost use Rattle.dns_master.specs.EntryFound.{shown_ending};
+ghost use Rattle.dns_master.specs.EntryForm.{rest_in, shown_ending};
 ghost use Rattle.dns_master.specs.PlaceForm.{shown_place};
 
 use crate::entry::Ending;

@@ -106,16 +106,16 @@ impl Reader {
         ensures err { IfErr result (λ code. ForFault code
             (λ fault. FrontFaulty goes_on self.old text.now fault self.old.line)) }
     {
-        let Ok(scan) = read_entry(text, MOST_WORDS, words) else {
+        let Ok((lines, ending)) = read_entry(text, MOST_WORDS, words) else {
             return Err(ReadCode::NoMemory);
         };
-        let Some(rest) = rest_after(scan.ending, goes_on)? else {
+        let Some(rest) = rest_after(ending, goes_on)? else {
             return Ok(None);
         };
         let is_blank_led = text.first().is_some_and(|first| is_blank(*first));
         match self.earlier.take(is_blank_led, words.as_slice(), buffers) {
             Ok(taken) => {
-                self.line += scan.lines;
+                self.line += lines;
                 Ok(Some((taken, rest)))
             }
             Err(blame) => Err(blame.code),

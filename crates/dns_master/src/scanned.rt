@@ -6,12 +6,12 @@ ghost use Rattle.dns_spec.specs.ZoneText.{extent_by, is_blank};
 ghost use Rattle.dns_spec.specs.EntryPlaces.{empty_place, end_octets, ending_fault, fault_place};
 ghost use Rattle.dns_spec.specs.AllFaults.{place_after};
 ghost use Rattle.dns_master.specs.Codes.{fault_of};
-ghost use Rattle.dns_master.specs.EntryFound.{shown_ending};
+ghost use Rattle.dns_master.specs.EntryForm.{shown_ending};
 ghost use Rattle.dns_master.specs.PlaceForm.{shown_place};
-ghost use Rattle.dns_master.specs.ListingForm.{EntryScanned, Judges, PassesEntry, placed, spot_by};
+ghost use Rattle.dns_master.specs.ListingForm.{IsScanned, Judges, PassesEntry, placed, spot_by};
 
 use crate::earlier::{Blame, Earlier};
-use crate::entry::{EntryScan, Progress, ending_fault, step_after, word_of};
+use crate::entry::{Ending, Step, ending_fault, step_after, word_of};
 use crate::place::{Span, stop_octets, stop_place};
 use crate::read_fault::ReadCode;
 use crate::run::is_blank;
@@ -48,8 +48,8 @@ pub(crate) struct ScannedEntry<'a, 'w> {
     /// The octets from the beginning of the entry on.
     pub(crate) rest: &'w [u8],
     pub(crate) words: &'a [Word<'w>],
-    /// What reading the entry found besides its words.
-    pub(crate) read: EntryScan<'w>,
+    /// How reading the entry ended.
+    pub(crate) ending: Ending<'w>,
 }
 
 impl ScannedEntry<'_, '_> {
@@ -60,7 +60,7 @@ impl ScannedEntry<'_, '_> {
         earlier: &mut Earlier,
         buffers: &mut DataBuffers,
     ) -> Result<Judged, AllocError>
-        requires scanned { EntryScanned self.now }
+        requires scanned { IsScanned self.now }
         ensures passed { PassesEntry earlier.old self.now earlier.new }
         ensures taken { IfOk result (Judges earlier.old (placed self.now) earlier.new.last) }
     {
@@ -84,9 +84,9 @@ impl ScannedEntry<'_, '_> {
     // The code of the entry's lexical fault, if it has one.
     fn lexical_code(&self) -> Option<ReadCode>
         ensures { option_map fault_of result ≡ ending_fault
-            (extent_by (nat_lt 0 (length self.now.past.now))) (shown_ending self.now.read.ending) }
+            (extent_by (nat_lt 0 (length self.now.past.now))) (shown_ending self.now.ending) }
     {
-        ending_fault(self.read.ending, !self.past.is_empty())
+        ending_fault(self.ending, !self.past.is_empty())
     }
 
     // The lexical fault of the entry, which has this code.
@@ -95,13 +95,13 @@ impl ScannedEntry<'_, '_> {
         ensures code { result.code ≡ code }
         ensures number { result.number ≡ None }
         ensures place { shown_place result.place ≡ fault_place (length self.now.octets.now)
-            self.now.past.now (fault_of code) (end_octets (shown_ending self.now.read.ending)) }
+            self.now.past.now (fault_of code) (end_octets (shown_ending self.now.ending)) }
         ensures entry { result.entry ≡ length self.now.octets.now - length self.now.rest.now }
     {
         EntryFault {
             code,
             number: None,
-            place: stop_place(self.octets, self.past, code, self.read.ending),
+            place: stop_place(self.octets, self.past, code, self.ending),
             entry: self.octets_before(),
         }
     }
@@ -145,9 +145,8 @@ impl ScannedEntry<'_, '_> {
         'tokens: while let Some((token, others)) = first_token(rest) {
             let begins = total - rest.len();
             match step_after(token, is_open) {
-                Progress::Misplaced => return Span::empty(begins),
-                Progress::Over => return Span::empty(begins),
-                Progress::Onward(now_open) => is_open = now_open,
+                Step::Misplaced | Step::Over => return Span::empty(begins),
+                Step::Onward(now_open) => is_open = now_open,
             }
             if word_of(token).is_some() {
                 if left == 0 {

@@ -1,23 +1,20 @@
-use Rattle.dns_master.proofs.Common.{◌-◌, ◌∙◌, ap, sym, length, false, take_all, arith, rules, Some, None}
+use Rattle.dns_master.proofs.Common.{◌-◌, ◌∙◌, ap, sym, length, take_all, arith, rules, Some, None, token_words}
 use Rattle.dns_spec.specs.EntryPlaces.{text_after}
 use Rattle.dns_master.proofs.ListingLoop.{first-entry, entries-left, all-listed, all-taken, gone-on, ended}
-use Rattle.dns_master.proofs.ScanSteps.{reads-found, words-few}
 use Rattle.dns_master.proofs.listing.list_octets.Goals as goal
 
 pub take-requires : goal.take-requires
 take-requires g c =
-    let found = c.in_ok-read.ensures in
-    let text = c.entries.rest.now in
-    let is = reads-found (length text) false (length c.args.octets.now - length text) text
-    found.read.tokens _ (omega arith) found.read.reads in
-    let few = words-few false text found.read.tokens _ found.read.reads in
-    let whole = ap length found.read.words_are in
-    let short = c.entries.invariant.short in
+    let found = c.in_ok-ending.ensures in
+    let is = found.reads (length c.args.octets.now - length c.entries.rest.now)
+    (length c.entries.rest.now) (omega arith) in
+    let few = found.bound in
     let most = c.requires in
+    let short = c.entries.invariant.short in
     record {
-      words_are = is.0 ∙ sym found.read.words_are
-          ∙ sym (found.stored ∙ take_all 18446744073709551615 found.all
-          (omega (arith, few, whole, short, most)))
+      words_are = ap token_words is.0
+          ∙ sym (found.stored ∙ take_all 18446744073709551615 (token_words found.tokens)
+          (omega (arith, few, short, most)))
           ∙ sym c.as_slice.ensures.value;
       ending_is = is.1;
       short = short;
@@ -36,25 +33,23 @@ entries-preserved g c =
     let text = c.entries.rest.now in
     let so = gone-on _ _ c.in_ok-take.field-0 (search rules) (c.in_ok-take.ensures _ _ _ _ _
     (first-entry _ _ _ _ _ _ _ left text c.entries-test.true c.entries.invariant.listed)) in
-    let short = c.in_ok-read.ensures.bound in
+    let found = c.in_ok-ending.ensures in
+    let bound = found.bound in
     let shorter = c.in-Some.ensures.short in
-    let found = c.in_ok-read.ensures in
-    let is = reads-found (length text) false (length c.args.octets.now - length text) text
-    found.read.tokens _ (omega arith) found.read.reads in
+    let is = found.reads (length c.args.octets.now - length text) (length text) (omega arith) in
     let within = c.entries.invariant.short in
     record {
       listed = entries-left _ _ _ _ _ _ _ (left - 1) text (Some c.in-Some.after.now)
           (ap text_after is.1 ∙ c.in-Some.ensures.value) so;
-      short = omega (arith, short, shorter, within);
+      short = omega (arith, bound, shorter, within);
     }
 
 pub returns-in-None : goal.returns-in-None
 returns-in-None g c =
     let left = c.entries.left in
     let text = c.entries.rest.now in
-    let found = c.in_ok-read.ensures in
-    let is = reads-found (length text) false (length c.args.octets.now - length text) text
-    found.read.tokens _ (omega arith) found.read.reads in
+    let is = c.in_ok-ending.ensures.reads (length c.args.octets.now - length text) (length text)
+    (omega arith) in
     let so = gone-on _ _ c.in_ok-take.field-0 (search rules) (c.in_ok-take.ensures _ _ _ _ _
     (first-entry _ _ _ _ _ _ _ left text c.entries-test.true c.entries.invariant.listed)) in
     all-listed _ _ _ _ _ _ _ (entries-left _ _ _ _ _ _ _ (left - 1) text None

@@ -13,7 +13,7 @@ returns-then-not-branch g c =
     let piece = c.in_ok-take_piece.ensures.ok in
     let so = piece-given _ _ _ _ _ _ _ _ c.pieces.invariant.so_far _ _ _ _ _ piece in
     rest_read _ _ _ _ _ c.finish.result _ _ _ _
-    (λ m h. end-given _ _ None _ _ _ _ _ so m (piece.over (search rules)).1 h)
+    (λ m h. end-given _ _ None _ _ _ _ _ so _ m so.consumed (piece.over (search rules)).1 h)
     c.finish.ensures.ok c.finish.ensures.err (search rules)
 
 pub pieces-preserved : goal.pieces-preserved
