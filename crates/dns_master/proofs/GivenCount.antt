@@ -1,5 +1,9 @@
 -- A text gives at most 100,000 records, whether or not it has faults.
-use Rattle.dns_master.proofs.Common.{◌≡◌, ℕ, ◌+◌, ◌-◌, ◌≤◌, Bool, true, false, cond, List, [], ◌∷◌, length, filter, refl, sym, ap, ◌∙◌, subst, inl, inr, arith, Option, Some, None, IsTrue, Octets, DomainName, ResourceRecord, Meaning, Means, EntriesMean, records, fault_at, false≢true, Word, Entry, FileFault, EntryMeaning, faulty, gives, EntryKind, no_words, directive, owned, unowned, kind_of, is_record, are_too_many, Fields, RecordGives, KindGives, MatchOption}
+use Rattle.dns_master.proofs.Common.{◌≡◌, ℕ, ◌+◌, ◌-◌, ◌≤◌, Bool, true, false, cond, List, [], ◌∷◌, length, filter, refl, sym, ap, ◌∙◌, subst, inl, inr, arith, Option, Some, None, IsTrue, Octets, DomainName, ResourceRecord, Means, records, Word, Entry, FileFault, EntryMeaning, faulty, gives, EntryKind, no_words, directive, owned, unowned, kind_of, is_record, are_too_many, Fields, RecordGives, KindGives, MatchOption}
+use Rattle.dns_master.proofs.Common.{◌++◌, take, drop, Lowest, IsRecord}
+use Rattle.dns_spec.specs.Meaning.{record_faults}
+use Rattle.dns_spec.specs.EntryPlaces.{placed_entries}
+use Rattle.dns_spec.proofs.ZoneTexts.NoFault.{no_fault}
 use Rattle.dns_spec.specs.ZoneText.{lexical_fault}
 use Rattle.std.proofs.Common.{length-append}
 use Rattle.std.specs.Bool.{MatchBool}
@@ -31,26 +35,35 @@ own_is : (own rs : List ResourceRecord) → gives own ≡ gives rs → own ≡ r
 unfolding own_in
 own_is own rs e = ap own_in e
 
+-- what gives records has none of the first faults
+lowest_left : (first others : List (FileFault × Type 0)) (Faultless : EntryMeaning → Type 0)
+    (own : List ResourceRecord) → Lowest (first ++ others) Faultless (gives own)
+    → Lowest others Faultless (gives own)
+lowest_left [] others Faultless own h = h
+lowest_left ((fault, Condition) ∷ first) others Faultless own (inl (holds, is)) =
+    absurd (faultless own fault is)
+lowest_left ((fault, Condition) ∷ first) others Faultless own (inr (none, h)) =
+    lowest_left first others Faultless own h
+
 module _ (o : DomainName) (earlier : List Entry) (own : List ResourceRecord) where
   -- a record without a fault is one of not too many
   record One : Type 0 where
     one : length own ≡ 1
     few : IsTrue (are_too_many earlier) → ⊥
 
+  abbrev Faultless : (DomainName → Type 0) → Fields → EntryMeaning → Type 0
+  Faultless Owner f given =
+      (r : ResourceRecord) × IsRecord o earlier Owner f r × (given ≡ gives (r ∷ []))
+
   record_own : (c : FileFault) (Owner : DomainName → Type 0) (f : Fields)
       → RecordGives o earlier c Owner f (gives own) → One
-  record_own c Owner f (inl (h, is)) = absurd (faultless own _ is)
-  record_own c Owner f (inr (_, inl (h, is))) = absurd (faultless own _ is)
-  record_own c Owner f (inr (_, inr (_, inl (h, is)))) = absurd (faultless own _ is)
-  record_own c Owner f (inr (_, inr (_, inr (_, inl (h, is))))) = absurd (faultless own _ is)
-  record_own c Owner f (inr (_, inr (_, inr (_, inr (_, inl (h, is)))))) =
-      absurd (faultless own _ is)
-  record_own c Owner f (inr (_, inr (_, inr (_, inr (_, inr (_, inl (h, is))))))) =
-      absurd (faultless own _ is)
-  record_own c Owner f (inr (_, inr (_, inr (_, inr (_, inr (_, inr (_, inl (h, is)))))))) =
-      absurd (faultless own _ is)
-  record_own c Owner f (inr (_, inr (_, inr (_, inr (_, inr (_, inr (_, inr (few, (r, h, is)))))))))
-      = record { one = ap length (own_is own (r ∷ []) is); few = few }
+  record_own c Owner f h =
+      let conditions = record_faults o earlier c Owner f in
+      elim (lowest_left (take 6 conditions) (drop 6 conditions) (Faultless Owner f) own h) [
+        | inl many ↦ absurd (faultless own _ many.1)
+        | inr few ↦
+            record { one = ap length (own_is own (few.1.0 ∷ []) few.1.2); few = few.0 }
+      ]
 
   directive_own : (name : List ℕ) (ws : List Word)
       → KindGives o earlier (directive name ws) (gives own) → own ≡ []
@@ -116,33 +129,11 @@ fits o earlier (e ∷ es) found rs (inr (own, given, (later, is, h))) =
     let own_less = own_fits o earlier own e.entry given in
     omega (arith, less, whole, own_less)
 
-meaning_records : Meaning → List ResourceRecord
-meaning_records (records rs) = rs
-meaning_records (fault_at fault line) = []
-
-is_fault : Meaning → Bool
-is_fault (records rs) = false
-is_fault (fault_at fault line) = true
-
-entries-few : (o : DomainName) (earlier es : List Entry) (rs : List ResourceRecord)
-    → EntriesMean o earlier es (records rs) → length rs ≤ records_left earlier
-unfolding meaning_records is_fault
-entries-few o earlier [] rs h = none_left rs (records_left earlier) (ap meaning_records h)
-entries-few o earlier (e ∷ es) rs (faulty fault, given, is) =
-    absurd (false≢true (ap is_fault is))
-entries-few o earlier (e ∷ es) rs (gives own, given, (fault_at fault line, h, is)) =
-    absurd (false≢true (ap is_fault is))
-entries-few o earlier (e ∷ es) rs (gives own, given, (records later, h, is)) =
-    let less = entries-few o (e ∷ earlier) es later h in
-    let whole = ap length (ap meaning_records is) ∙ length-append own later in
-    let own_less = own_fits o earlier own e (inl given) in
-    omega (arith, less, whole, own_less)
+pub few_given : (o : DomainName) (es : List PlacedEntry) (found : List EntryFault)
+    (rs : List ResourceRecord) → EntriesGive o [] es found rs → length rs ≤ 100000
+few_given o es found rs h = fits o [] es found rs h
 
 -- a text means at most 100,000 records
 pub means-few : (o : DomainName) (text : Octets) (rs : List ResourceRecord)
     → Means o text (records rs) → length rs ≤ 100000
-means-few o text rs h = entries-few o [] h.0 rs h.2
-
-pub few_given : (o : DomainName) (es : List PlacedEntry) (found : List EntryFault)
-    (rs : List ResourceRecord) → EntriesGive o [] es found rs → length rs ≤ 100000
-few_given o es found rs h = fits o [] es found rs h
+means-few o text rs h = few_given o (placed_entries text) [] rs (no_fault o text rs h)

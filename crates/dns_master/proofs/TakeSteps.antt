@@ -1,17 +1,18 @@
 -- The parts of a record, in order, if earlier entries may be faulty; and the places of its faults.
-use Rattle.dns_master.proofs.Common.{cut, lower_case, lowered-twice, IsKept, ◌⊎◌, ◌≡◌, ℕ, ◌+◌, ◌-◌, ◌≤◌, Bool, true, false, List, [], ◌∷◌, length, drop, prefix_len, prefix_len-le-length, refl, sym, ap, ◌∙◌, subst, inl, inr, arith, codes, Option, Some, None, false≢true, none-some, is_none, Octets, DomainName, folded, SpellsName, ResourceRecord, Word, Says, Entry, FileFault, bad_data, bad_type, bad_owner, no_owner, no_ttl, other_class, too_many_records, directive_words, Nothing, Lowest, IsRecord, Fields, fields, EntryKind, directive, owned, unowned, EntryMeaning, faulty, gives, OriginIs, NameIs, OwnerBefore, TtlSays, ttl_in_force, TypeIs, DataIs, IsNoTtl, is_other_class, not, are_too_many, RecordGives, KindGives, MatchOption, IsTrue, option_or, same_Some, nat_le, ◌==◌, list_all}
+use Rattle.dns_master.proofs.Common.{cut, lower_case, lowered-twice, IsKept, ◌⊎◌, ◌≡◌, ℕ, ◌+◌, ◌-◌, ◌≤◌, Bool, true, false, List, [], ◌∷◌, length, drop, prefix_len, prefix_len-le-length, refl, sym, ap, ◌∙◌, subst, inl, inr, arith, codes, Option, Some, None, false≢true, is_none, Octets, DomainName, folded, SpellsName, ResourceRecord, Word, Says, Entry, FileFault, bad_data, bad_type, bad_owner, no_owner, no_ttl, other_class, too_many_records, directive_words, Nothing, Lowest, IsRecord, Fields, fields, EntryKind, directive, EntryMeaning, faulty, gives, OriginIs, NameIs, OwnerBefore, TtlSays, ttl_in_force, TypeIs, DataIs, IsNoTtl, is_other_class, not, are_too_many, RecordGives, KindGives, MatchOption, IsTrue, option_or, nat_le, ◌==◌}
 use Rattle.std.specs.Bool.{MatchBool}
 use Rattle.dns_spec.specs.FileFaults.{bad_octet, bad_escape, unended_string, bad_parenthesis, unknown_directive, bad_ttl, too_long, unreadable, no_memory}
-use Rattle.dns_spec.specs.Meaning.{is_ttl_word, is_class_word}
+use Rattle.dns_spec.specs.Meaning.{class_after, ttl_after, is_ttl_word, is_class_word}
 use Rattle.dns_spec.specs.Data.{Field}
-use Rattle.dns_spec.specs.DataText.{is_unknown_mark, word_fields_of}
+use Rattle.dns_spec.specs.DataText.{word_fields_of}
 use Rattle.dns_spec.specs.DataFaults.{DataFaultIs}
-use Rattle.dns_spec.specs.AllFaults.{FaultyField, FaultyUnknown, FaultyTyped, FaultyData, ForData, NumberIs, record_words, words_before, is_hex}
+use Rattle.dns_spec.specs.AllFaults.{FaultyField, FaultyUnknown, FaultyTyped, FaultyData, NumberIs, record_words, words_before}
+use Rattle.dns_spec.proofs.ZoneTexts.GivenRecords.{record_given}
 use Rattle.dns_spec.proofs.ZoneTexts.OneMeaning.{type_once}
 use Rattle.std.specs.Option.{is_some, ForSome}
-use Rattle.dns_master.specs.EarlierForm.{SeenTtl, LooksBack, LooksBackTo}
-use Rattle.std.specs.Prelude.{◌↔◌, ◌<◌, Result, Ok, Err, IfOk, IfErr}
-use Rattle.dns_master.proofs.Common.{ReadCode, DirectiveWords, fault_of, length-drop, cond, LastOwner}
+use Rattle.dns_master.specs.EarlierForm.{SeenTtl, LooksBack, OriginAfter}
+use Rattle.std.specs.Prelude.{◌↔◌, ◌<◌}
+use Rattle.dns_master.proofs.Common.{ReadCode, DirectiveWords, fault_of, length-drop, cond}
 use Rattle.dns_master.proofs.Common.{if◌then◌else◌}
 use Rattle.dns_master.specs.declared.earlier.Earlier.{Earlier}
 use Rattle.dns_master.specs.declared.earlier.Blame.{Blame}
@@ -41,25 +42,16 @@ typed_few t o ws i = go (word_fields_of t (length ws))
         (λ fs. MatchBool (length fs == length ws)
         ((j : ℕ) × FaultyField fs o 0 ws j × (i ≡ 1 + j)) (i ≡ 0)) → i ≤ 1 + length ws
     go None is = omega (arith, is)
-    go (Some fs) h =
-        by_test (length fs == length ws)
-        (λ k. let more = field_few fs o 0 ws k.0 k.1 in let is = k.2 in
-        omega (arith, more, is)) (λ is. omega (arith, is)) h
+    go (Some fs) h = grind (arith, field_few)
 
 unknown_few : (ws : List Word) (i : ℕ) → FaultyUnknown ws i → i ≤ 1 + length ws
 unknown_few [] i is = omega (arith, is)
-unknown_few (w ∷ ws) i (inl h) = let is = h.1 in omega (arith, is)
-unknown_few (w ∷ ws) i (inr h) =
-    by_test (list_all is_hex ws) (λ is. omega (arith, is))
-    (λ is. let few = prefix_len-le-length is_hex ws in omega (arith, is, few)) h.2
+unknown_few (w ∷ ws) i h = grind (arith, prefix_len-le-length)
 
 pub data_few : (t : ℕ) (ws : List Word) (o : DomainName) (i : ℕ)
     → FaultyData t ws o i → i ≤ 1 + length ws
 data_few t [] o i is = omega (arith, is)
-data_few t (w ∷ ws) o i h =
-    by_test (is_unknown_mark w)
-    (λ k. let more = unknown_few ws k.0 k.1 in let is = k.2 in omega (arith, more, is))
-    (typed_few t o (w ∷ ws) i) h
+data_few t (w ∷ ws) o i h = grind (arith, unknown_few, typed_few)
 
 pub fields-data_few : (t : ℕ) (others : List Word) (o : DomainName) (i : ℕ)
     → FaultyData t (drop 1 others) o i → i ≤ 1 + length others
@@ -67,59 +59,43 @@ fields-data_few t others o i h =
     let few = data_few t (drop 1 others) o i h in
     let less = length-drop 1 others in omega (arith, few, less)
 
+class-few : (w : Word) (ws : List Word) → length (class_after w ws).others ≤ length ws
+class-few w [] = omega arith
+class-few w (v ∷ ws) = grind arith
+
+ttl-few : (w : Word) (ws : List Word) → length (ttl_after w ws).others ≤ length ws
+ttl-few w [] = omega arith
+ttl-few w (v ∷ ws) = grind arith
+
 -- the fields leave at most the words that there are
 pub fields_few : (ws : List Word) → length (fields ws).others ≤ length ws
 fields_few [] = omega arith
-fields_few (w ∷ []) = go (is_ttl_word w) (is_class_word w)
+fields_few (w ∷ ws) = go (is_ttl_word w) (is_class_word w)
   where
-    go : (a b : Bool) → length (Fields.others (cond a
-        (record { ttl = Some w; class = None; others = [] }) (cond b
-        (record { ttl = None; class = Some w; others = [] })
-        (record { ttl = None; class = None; others = w ∷ [] })))) ≤ length (w ∷ [])
-    go true b = omega arith
-    go false true = omega arith
+    go : (a b : Bool) → length (Fields.others (cond a (class_after w ws) (cond b (ttl_after w ws)
+        (record { ttl = None; class = None; others = w ∷ ws })))) ≤ length (w ∷ ws)
+    go true b = omega (arith, class-few w ws)
+    go false true = omega (arith, ttl-few w ws)
     go false false = omega arith
-fields_few (w ∷ v ∷ ws) =
-    go (is_ttl_word w) (is_class_word w) (is_class_word v) (is_ttl_word v)
-  where
-    go : (a b c t : Bool) → length (Fields.others (cond a
-        (cond c (record { ttl = Some w; class = Some v; others = ws })
-        (record { ttl = Some w; class = None; others = v ∷ ws })) (cond b
-        (cond t (record { ttl = Some v; class = Some w; others = ws })
-        (record { ttl = None; class = Some w; others = v ∷ ws }))
-        (record { ttl = None; class = None; others = w ∷ v ∷ ws })))) ≤ length (w ∷ v ∷ ws)
-    go true b true t = omega arith
-    go true b false t = omega arith
-    go false true c true = omega arith
-    go false true c false = omega arith
-    go false false c t = omega arith
 
 none_seen : (w : Option Word) (x : Option (Option ℕ)) → SeenTtl w x → x ≡ None
     → is_none w ≡ true
-none_seen None x h e = refl
-none_seen (Some w) x h e = absurd (none-some h.0 (sym e ∙ h.1))
+none_seen w x h e = grind arith
 
-some_seen : (w : Option Word) (x : Option (Option ℕ)) (v : Option ℕ) → SeenTtl w x
-    → x ≡ Some v → is_none w ≡ true → ⊥
-some_seen None x v h e k = none-some v (sym h ∙ e)
-some_seen (Some w) x v h e k = false≢true k
+some_seen : (w : Option Word) (v : Option ℕ) → SeenTtl w (Some v) → is_none w ≡ true → ⊥
+some_seen w v h k = grind arith
 
-seen_ttl : (w : Option Word) (x : Option (Option ℕ)) (n : ℕ) → SeenTtl w x
-    → x ≡ Some (Some n) → MatchOption w ⊥ (λ w. TtlSays w n)
-seen_ttl None x n h e = none-some (Some n) (sym h ∙ e)
-seen_ttl (Some w) x n h e =
-    (h.2 n).0 (sym (same_Some (Some n) h.0 (sym e ∙ h.1)))
+seen_ttl : (w : Option Word) (n : ℕ) → SeenTtl w (Some (Some n))
+    → MatchOption w ⊥ (λ w. TtlSays w n)
+seen_ttl w n h = grind arith
 
-seen_invalid : (w : Option Word) (x : Option (Option ℕ)) (n : ℕ) → SeenTtl w x
-    → x ≡ Some None → MatchOption w ⊥ (λ w. TtlSays w n) → ⊥
-seen_invalid None x n h e k = k
-seen_invalid (Some w) x n h e k =
-    none-some n (same_Some None h.0 (sym e ∙ h.1) ∙ (h.2 n).1 k)
+seen_invalid : (w : Option Word) (n : ℕ) → SeenTtl w (Some None)
+    → MatchOption w ⊥ (λ w. TtlSays w n) → ⊥
+seen_invalid w n h k = grind arith
 
 seen-or : (v w : Option Word) (m n : Option (Option ℕ)) → SeenTtl v m → SeenTtl w n
     → SeenTtl (option_or v w) (option_or m n)
-seen-or None w m n h k = rw h k
-seen-or (Some v) w m n h k = (h.0, ap (λ x. option_or x n) h.1, h.2)
+seen-or v w m n h k = grind arith
 
 -- what was seen of the TTL that a record states, and of the last one before it that is stated
 module _ (stated w : Option Word) (seen : Option (Option ℕ))
@@ -127,12 +103,7 @@ module _ (stated w : Option Word) (seen : Option (Option ℕ))
   pub in-force : (d : Option Word) (default : Option (Option ℕ)) (b : Bool)
       → b ≡ is_some stated → SeenTtl d default
       → SeenTtl (option_or stated (option_or d w)) (if b then seen else option_or default seen)
-  in-force d default b e k = go stated h e
-    where
-      go : (stated : Option Word) → SeenTtl (option_or stated w) seen → b ≡ is_some stated
-          → SeenTtl (option_or stated (option_or d w)) (if b then seen else option_or default seen)
-      go None h e = rw e (seen-or d w default seen k h)
-      go (Some v) h e = rw e h
+  in-force d default b e k = grind arith
 
   pub ttl-valid : (is_some stated ≡ true → seen ≡ Some None → ⊥) → IsNoTtl stated → ⊥
   ttl-valid valid = go stated h valid
@@ -163,159 +134,134 @@ module _ (o : DomainName) (earlier : List Entry) (owner : DomainName) (f : Field
       → Nothing (TypeIs f.others) → OwnedGives o earlier owner f (faulty bad_type)
   type-blamed a b h = inr (named, inr (a, inr (is_in b, inl (h, refl))))
 
-  module _ (seen : Option (Option ℕ)) (t : ℕ) (a : IsNoTtl f.ttl → ⊥)
-      (b : is_other_class f.class ≡ false) (c : TypeIs f.others t)
-      (k : SeenTtl (ttl_in_force earlier f.ttl) seen) where
-    typed : Nothing (TypeIs f.others) → ⊥
-    typed none = none t c
+  pub no_ttl-blamed : (t : ℕ) → (IsNoTtl f.ttl → ⊥) → is_other_class f.class ≡ false
+      → TypeIs f.others t → SeenTtl (ttl_in_force earlier f.ttl) None
+      → OwnedGives o earlier owner f (faulty no_ttl)
+  no_ttl-blamed t a b c k = grind (arith, none_seen)
 
-    pub no_ttl-blamed : seen ≡ None → OwnedGives o earlier owner f (faulty no_ttl)
-    no_ttl-blamed e =
-        inr (
-          named,
-          inr (
-            a,
-            inr (is_in b, inr (typed, inl (none_seen (ttl_in_force earlier f.ttl) seen k e, refl))),
-          ),
-        )
+-- a record with these fields has this type, the TTL in force was seen, and this origin is in force
+pub record WithTtl (o : DomainName) (earlier : List Entry) (f : Fields) (t : ℕ) (v : Option ℕ)
+    (origin : DomainName) : Type 0 where
+  pub ttl : IsNoTtl f.ttl → ⊥
+  pub class : is_other_class f.class ≡ false
+  pub type : TypeIs f.others t
+  pub in_force : SeenTtl (ttl_in_force earlier f.ttl) (Some v)
+  pub origin_is : OriginIs o earlier origin
+  pub only : (n : DomainName) → OriginIs o earlier n → n ≡ origin
 
-    module _ (v : Option ℕ) (e : seen ≡ Some v) (origin : DomainName)
-        (is : OriginIs o earlier origin)
-        (only : (n : DomainName) → OriginIs o earlier n → n ≡ origin) where
-      from_data : (given : EntryMeaning) → Lowest ((bad_data, Nothing (DataIs o earlier f.others))
-          ∷ (too_many_records, IsTrue (are_too_many earlier)) ∷ []) (λ given. (r : ResourceRecord)
-          × IsRecord o earlier (λ n. n ≡ owner) f r × (given ≡ gives (r ∷ []))) given
-          → OwnedGives o earlier owner f given
-      from_data given rest =
-          inr (
-            named,
-            inr (
-              a,
-              inr (
-                is_in b,
-                inr (typed, inr (some_seen (ttl_in_force earlier f.ttl) seen v k e, rest)),
-              ),
-            ),
-          )
+module _ (o : DomainName) (earlier : List Entry) (owner : DomainName) (f : Fields) (t : ℕ)
+    (v : Option ℕ) (origin : DomainName) (k : WithTtl o earlier f t v origin) where
+  typed : Nothing (TypeIs f.others) → ⊥
+  typed none = none t k.type
 
-      pub data-blamed : Nothing (Says t (drop 1 f.others) origin)
-          → OwnedGives o earlier owner f (faulty bad_data)
-      data-blamed none =
-          let other : Nothing (DataIs o earlier f.others) = λ d h.
-          none d (subst (λ u. Says u (drop 1 f.others) origin d) (type_once f.others h.0 t h.1 c)
-          (subst (λ m. Says h.0 (drop 1 f.others) m d) (only h.2.0 h.2.1) h.2.2)) in
-          from_data (faulty bad_data) (inl (other, refl))
+  from_data : (given : EntryMeaning) → Lowest ((bad_data, Nothing (DataIs o earlier f.others))
+      ∷ (too_many_records, IsTrue (are_too_many earlier)) ∷ []) (λ given. (r : ResourceRecord)
+      × IsRecord o earlier (λ n. n ≡ owner) f r × (given ≡ gives (r ∷ []))) given
+      → OwnedGives o earlier owner f given
+  from_data given rest =
+      let class = is_in o earlier owner f k.class in
+      let seen = some_seen (ttl_in_force earlier f.ttl) v k.in_force in
+      inr (named o earlier owner f, inr (k.ttl, inr (class, inr (typed, inr (seen, rest)))))
 
-      module _ (d : Octets) (said : Says t (drop 1 f.others) origin d) where
-        has_data : Nothing (DataIs o earlier f.others) → ⊥
-        has_data none = none d (t, c, (origin, is, said))
+  pub data-blamed : Nothing (Says t (drop 1 f.others) origin)
+      → OwnedGives o earlier owner f (faulty bad_data)
+  data-blamed none =
+      let other : Nothing (DataIs o earlier f.others) = λ d h.
+      none d (subst (λ u. Says u (drop 1 f.others) origin d) (type_once f.others h.0 t h.1 k.type)
+      (subst (λ m. Says h.0 (drop 1 f.others) m d) (k.only h.2.0 h.2.1) h.2.2)) in
+      from_data (faulty bad_data) (inl (other, refl))
 
-        pub count-blamed : are_too_many earlier ≡ true
-            → OwnedGives o earlier owner f (faulty too_many_records)
-        count-blamed h = from_data (faulty too_many_records) (inr (has_data, inl (h, refl)))
+  -- the number and the word of invalid data
+  pub data-detail : (j n : ℕ) → DataFaultIs t (drop 1 f.others) origin j
+      → FaultyData t (drop 1 f.others) origin n
+      → FieldsDetail o earlier f bad_data (Some j) n
+  data-detail j n which word = (
+    (t, k.type, (origin, k.origin_is, (j, which, refl))),
+    (t, k.type, (origin, k.origin_is, word)),
+  )
 
-        pub record-own : (ttl : ℕ) → v ≡ Some ttl → folded owner ≡ owner
-            → are_too_many earlier ≡ false → OwnedGives o earlier owner f
-            (gives (record { owner = owner; ttl = ttl; rtype = t; rdata = d } ∷ []))
-        record-own ttl v_is low few =
-            let r : ResourceRecord =
-            record { owner = owner; ttl = ttl; rtype = t; rdata = d } in
-            let is_record : IsRecord o earlier (λ n. n ≡ owner) f r =
-            record {
-              owner = (owner, refl, sym low);
-              ttl = seen_ttl (ttl_in_force earlier f.ttl) seen ttl k (e ∙ ap (λ x. Some x) v_is);
-              rtype = c;
-              rdata = (t, c, (origin, is, said));
-            } in
-            from_data (gives (r ∷ []))
-            (inr (has_data, inr ((λ x. false≢true (sym few ∙ x)), (r, is_record, refl))))
+  module _ (d : Octets) (said : Says t (drop 1 f.others) origin d) where
+    has_data : Nothing (DataIs o earlier f.others) → ⊥
+    has_data none = none d (t, k.type, (origin, k.origin_is, said))
 
-        never : v ≡ None → are_too_many earlier ≡ false → (code : FileFault)
-            (Owner : DomainName → Type 0) → (Nothing Owner → ⊥)
-            → (given : EntryMeaning) → RecordGives o earlier code Owner f given → ⊥
-        never v_is few code Owner some given (inl h) = some h.0
-        never v_is few code Owner some given (inr (x, inl h)) = a h.0
-        never v_is few code Owner some given (inr (x, inr (y, inl h))) = is_in b h.0
-        never v_is few code Owner some given (inr (x, inr (y, inr (z, inl h)))) = typed h.0
-        never v_is few code Owner some given (inr (x, inr (y, inr (z, inr (u, inl h))))) =
-            some_seen (ttl_in_force earlier f.ttl) seen v k e h.0
-        never v_is few code Owner some given
-            (inr (x, inr (y, inr (z, inr (u, inr (p, inl h)))))) = has_data h.0
-        never v_is few code Owner some given
-            (inr (x, inr (y, inr (z, inr (u, inr (p, inr (q, inl h))))))) =
-            false≢true (sym few ∙ h.0)
-        never v_is few code Owner some given
-            (inr (x, inr (y, inr (z, inr (u, inr (p, inr (q, inr h))))))) =
-            seen_invalid (ttl_in_force earlier f.ttl) seen h.1.0.ttl k
-            (e ∙ ap (λ x. Some x) v_is) h.1.1.ttl
+    pub count-blamed : are_too_many earlier ≡ true
+        → OwnedGives o earlier owner f (faulty too_many_records)
+    count-blamed h = from_data (faulty too_many_records) (inr (has_data, inl (h, refl)))
 
-        -- if the TTL in force is invalid, such a record gives nothing, whatever its owner
-        pub none-own : v ≡ None → are_too_many earlier ≡ false → NeverGives o earlier f
-        none-own v_is few = record {
-          owned = λ w n named. never v_is few bad_owner (NameIs o earlier w)
-              (λ none. none n named);
-          unowned = λ n before. never v_is few no_owner (OwnerBefore o earlier)
-              (λ none. none n before);
-        }
+    pub record-own : (ttl : ℕ) → v ≡ Some ttl → folded owner ≡ owner
+        → are_too_many earlier ≡ false → OwnedGives o earlier owner f
+        (gives (record { owner = owner; ttl = ttl; rtype = t; rdata = d } ∷ []))
+    record-own ttl v_is low few =
+        record_given o earlier no_owner (λ n. n ≡ owner) f _ (record {
+          owner = (owner, refl, sym low);
+          ttl = seen_ttl (ttl_in_force earlier f.ttl) ttl (rw v_is at k.in_force);
+          rtype = k.type;
+          rdata = (t, k.type, (origin, k.origin_is, said));
+        }) k.class few
 
--- the number and the word of invalid data
-pub data-detail : (o : DomainName) (earlier : List Entry) (others : List Word) (t : ℕ)
-    (origin : DomainName) (k n : ℕ) → TypeIs others t → OriginIs o earlier origin
-    → DataFaultIs t (drop 1 others) origin k → FaultyData t (drop 1 others) origin n
-    → ForData o earlier others (λ t ws m. (j : ℕ) × DataFaultIs t ws m j × (Some k ≡ Some j))
-    × ForData o earlier others (λ t ws m. FaultyData t ws m n)
-data-detail o earlier others t origin k n c is which word =
-    ((t, c, (origin, is, (k, which, refl))), (t, c, (origin, is, word)))
+    never : v ≡ None → are_too_many earlier ≡ false → (code : FileFault)
+        (Owner : DomainName → Type 0) → (Nothing Owner → ⊥)
+        → (given : EntryMeaning) → RecordGives o earlier code Owner f given → ⊥
+    never v_is few code Owner some given (inl h) = some h.0
+    never v_is few code Owner some given (inr (x, inl h)) = k.ttl h.0
+    never v_is few code Owner some given (inr (x, inr (y, inl h))) =
+        is_in o earlier owner f k.class h.0
+    never v_is few code Owner some given (inr (x, inr (y, inr (z, inl h)))) = typed h.0
+    never v_is few code Owner some given (inr (x, inr (y, inr (z, inr (u, inl h))))) =
+        some_seen (ttl_in_force earlier f.ttl) v k.in_force h.0
+    never v_is few code Owner some given
+        (inr (x, inr (y, inr (z, inr (u, inr (p, inl h)))))) = has_data h.0
+    never v_is few code Owner some given
+        (inr (x, inr (y, inr (z, inr (u, inr (p, inr (q, inl h))))))) =
+        false≢true (sym few ∙ h.0)
+    never v_is few code Owner some given
+        (inr (x, inr (y, inr (z, inr (u, inr (p, inr (q, inr h))))))) =
+        seen_invalid (ttl_in_force earlier f.ttl) h.1.0.ttl (rw v_is at k.in_force) h.1.1.ttl
+
+    -- if the TTL in force is invalid, such a record gives nothing, whatever its owner
+    pub none-own : v ≡ None → are_too_many earlier ≡ false → NeverGives o earlier f
+    none-own v_is few = record {
+      owned = λ w n named. never v_is few bad_owner (NameIs o earlier w) (λ none. none n named);
+      unowned = λ n before. never v_is few no_owner (OwnerBefore o earlier)
+          (λ none. none n before);
+    }
+
+one-by : (test : Word → Bool) (w : Word)
+    → one_unless test (w ∷ []) ≡ prefix_len (λ w. not (test w)) (w ∷ [])
+one-by test w = grind arith
+
+-- the first word or the second passes the test
+place-by : (test : Word → Bool) (w v : Word) (ws : List Word) → (test w ≡ false → test v ≡ true)
+    → one_unless test (w ∷ v ∷ ws) ≡ prefix_len (λ w. not (test w)) (w ∷ v ∷ ws)
+place-by test w v ws h = go (test w) (test v) h
+  where
+    go : (a b : Bool) → (a ≡ false → b ≡ true)
+        → cond a 0 1 ≡ cond (not a) (1 + cond (not b) (1 + prefix_len (λ w. not (test w)) ws) 0) 0
+    go true b h = refl
+    go false true h = refl
+    go false false h = absurd (false≢true (h refl))
 
 -- the TTL that is stated is the first word or the second, and so is the class
 ttl_place : (ws : List Word) → IsNoTtl (fields ws).ttl
     → one_unless is_ttl_word ws ≡ prefix_len (λ w. not (is_ttl_word w)) ws
 ttl_place [] h = absurd h
-ttl_place (w ∷ []) h = go (is_ttl_word w)
-  where
-    go : (a : Bool) → cond a 0 1 ≡ cond (not a) (1 + 0) 0
-    go true = refl
-    go false = refl
-ttl_place (w ∷ v ∷ ws) h =
-    go (is_ttl_word w) (is_class_word w) (is_class_word v) (is_ttl_word v) h
-  where
-    go : (a b c t : Bool) → IsNoTtl (Fields.ttl (cond a
-        (cond c (record { ttl = Some w; class = Some v; others = ws })
-        (record { ttl = Some w; class = None; others = v ∷ ws })) (cond b
-        (cond t (record { ttl = Some v; class = Some w; others = ws })
-        (record { ttl = None; class = Some w; others = v ∷ ws }))
-        (record { ttl = None; class = None; others = w ∷ v ∷ ws }))))
-        → cond a 0 1 ≡ cond (not a)
-        (1 + cond (not t) (1 + prefix_len (λ w. not (is_ttl_word w)) ws) 0) 0
-    go true b c t h = refl
-    go false true c true h = refl
-    go false true c false h = absurd h
-    go false false c t h = absurd h
+ttl_place (w ∷ []) h = one-by is_ttl_word w
+ttl_place (w ∷ v ∷ ws) h = place-by is_ttl_word w v ws (λ no. grind arith)
+
+other-stated : (class : Option Word) → is_other_class class ≡ true → is_some class ≡ true
+other-stated None h = h
+other-stated (Some w) h = refl
+
+class-second : (w v : Word) (ws : List Word) → is_some (fields (w ∷ v ∷ ws)).class ≡ true
+    → is_class_word w ≡ false → is_class_word v ≡ true
+class-second w v ws h other = grind arith
 
 class_place : (ws : List Word) → is_other_class (fields ws).class ≡ true
     → one_unless is_class_word ws ≡ prefix_len (λ w. not (is_class_word w)) ws
 class_place [] h = absurd (false≢true h)
-class_place (w ∷ []) h = go (is_class_word w)
-  where
-    go : (a : Bool) → cond a 0 1 ≡ cond (not a) (1 + 0) 0
-    go true = refl
-    go false = refl
+class_place (w ∷ []) h = one-by is_class_word w
 class_place (w ∷ v ∷ ws) h =
-    go (is_ttl_word w) (is_class_word w) (is_class_word v) (is_ttl_word v) h
-  where
-    go : (a b c t : Bool) → is_other_class (Fields.class (cond a
-        (cond c (record { ttl = Some w; class = Some v; others = ws })
-        (record { ttl = Some w; class = None; others = v ∷ ws })) (cond b
-        (cond t (record { ttl = Some v; class = Some w; others = ws })
-        (record { ttl = None; class = Some w; others = v ∷ ws }))
-        (record { ttl = None; class = None; others = w ∷ v ∷ ws })))) ≡ true
-        → cond b 0 1 ≡ cond (not b)
-        (1 + cond (not c) (1 + prefix_len (λ w. not (is_class_word w)) ws) 0) 0
-    go true true c t h = refl
-    go true false true t h = refl
-    go true false false t h = absurd (false≢true h)
-    go false true c t h = refl
-    go false false c t h = absurd (false≢true h)
+    place-by is_class_word w v ws (class-second w v ws (other-stated _ h))
 
 module _ (o : DomainName) (earlier : List Entry) (s : EntryKind) where
   abbrev ws : List Word
@@ -324,46 +270,29 @@ module _ (o : DomainName) (earlier : List Entry) (s : EntryKind) where
   abbrev Detail : FileFault → Option ℕ → ℕ → Type 0
   Detail fault number n = FieldsDetail o earlier (fields ws) fault number n
 
-  pub word_by : (fault : FileFault) (number : Option ℕ) (n i : ℕ) → Detail fault number n
-      → i ≡ words_before s + words_to fault ws n → BlamedWord o earlier s fault i
-  word_by bad_ttl number n i d e = e ∙ ap (λ m. words_before s + m) (ttl_place ws d.1)
-  word_by other_class number n i d e = e ∙ ap (λ m. words_before s + m) (class_place ws d.1)
-  word_by bad_type number n i d e = e
-  word_by no_ttl number n i d e = e
-  word_by bad_data number n i d e =
-      (d.1.0, d.1.1, (d.1.2.0, d.1.2.1, (n, d.1.2.2, omega (arith, e))))
-  word_by too_many_records number n i d e = tt
-  word_by bad_owner number n i d e = absurd d
-  word_by no_owner number n i d e = absurd d
-  word_by unknown_directive number n i d e = absurd d
-  word_by directive_words number n i d e = absurd d
-  word_by bad_octet number n i d e = absurd d
-  word_by bad_escape number n i d e = absurd d
-  word_by unended_string number n i d e = absurd d
-  word_by bad_parenthesis number n i d e = absurd d
-  word_by too_long number n i d e = absurd d
-  word_by unreadable number n i d e = absurd d
-  word_by no_memory number n i d e = absurd d
-
-  pub number_by : (fault : FileFault) (number : Option ℕ) (n : ℕ) → Detail fault number n
-      → NumberIs o earlier s fault number
-  number_by bad_ttl number n d = d.0
-  number_by other_class number n d = d.0
-  number_by bad_type number n d = d
-  number_by no_ttl number n d = d
-  number_by bad_data number n d = d.0
-  number_by too_many_records number n d = d
-  number_by bad_owner number n d = absurd d
-  number_by no_owner number n d = absurd d
-  number_by unknown_directive number n d = absurd d
-  number_by directive_words number n d = absurd d
-  number_by bad_octet number n d = absurd d
-  number_by bad_escape number n d = absurd d
-  number_by unended_string number n d = absurd d
-  number_by bad_parenthesis number n d = absurd d
-  number_by too_long number n d = absurd d
-  number_by unreadable number n d = absurd d
-  number_by no_memory number n d = absurd d
+  pub told_by : (fault : FileFault) (number : Option ℕ) (n i : ℕ) → Detail fault number n
+      → i ≡ words_before s + words_to fault ws n
+      → NumberIs o earlier s fault number × BlamedWord o earlier s fault i
+  told_by bad_ttl number n i d e =
+      (d.0, e ∙ ap (λ m. words_before s + m) (ttl_place ws d.1))
+  told_by other_class number n i d e =
+      (d.0, e ∙ ap (λ m. words_before s + m) (class_place ws d.1))
+  told_by bad_type number n i d e = (d, e)
+  told_by no_ttl number n i d e = (d, e)
+  told_by bad_data number n i d e =
+      (d.0, (d.1.0, d.1.1, (d.1.2.0, d.1.2.1, (n, d.1.2.2, omega (arith, e)))))
+  told_by too_many_records number n i d e = (d, tt)
+  told_by bad_owner number n i d e = absurd d
+  told_by no_owner number n i d e = absurd d
+  told_by unknown_directive number n i d e = absurd d
+  told_by directive_words number n i d e = absurd d
+  told_by bad_octet number n i d e = absurd d
+  told_by bad_escape number n i d e = absurd d
+  told_by unended_string number n i d e = absurd d
+  told_by bad_parenthesis number n i d e = absurd d
+  told_by too_long number n i d e = absurd d
+  told_by unreadable number n i d e = absurd d
+  told_by no_memory number n i d e = absurd d
 
 -- a blame by its parts
 pub blamed-by : (o : DomainName) (earlier : List Entry) (s : EntryKind) (b : Blame)
@@ -372,13 +301,7 @@ pub blamed-by : (o : DomainName) (earlier : List Entry) (s : EntryKind) (b : Bla
     → NumberIs o earlier s (fault_of code) number → BlamedWord o earlier s (fault_of code) i
     → Blamed o earlier s b
 blamed-by o earlier s b code number i p q r given number_is word =
-    record {
-      given = subst (λ c. KindGives o earlier s (faulty (fault_of c))) (sym p) given;
-      number = subst (λ c. NumberIs o earlier s (fault_of c) b.number) (sym p)
-          (subst (λ m. NumberIs o earlier s (fault_of code) m) (sym q) number_is);
-      word = subst (λ c. BlamedWord o earlier s (fault_of c) b.words) (sym p)
-          (subst (λ j. BlamedWord o earlier s (fault_of code) j) (sym r) word);
-    }
+    record { given = rw p given; number = rw (p, q) number_is; word = rw (p, r) word }
 
 pub said-by : (w : Word) (v : Option ℕ) → ((n : ℕ) → (v ≡ Some n) ↔ TtlSays w n)
     → is_none v ≡ false → (n : ℕ) × TtlSays w n
@@ -453,85 +376,48 @@ module _ (o : DomainName) (earlier : List Entry) (Owner : DomainName → Type 0)
             (otherwise (otherwise (otherwise (otherwise (otherwise (owned_record answer)))))) h.1,
       )
 
--- a record of an entry with this owner, by its fields
-module _ (o : DomainName) (earlier : List Entry) (owner : DomainName) (b : Blame) (n : ℕ)
-    (twice : folded owner ≡ owner) where
-  pub owned-blamed : (w : Word) (ws : List Word) (m : DomainName) → NameIs o earlier w m
-      → owner ≡ folded m
-      → FieldsBlamed o earlier owner (fields ws) (fault_of b.code) b.number n
-      → b.words ≡ 1 + words_to (fault_of b.code) ws n → Blamed o earlier (owned w ws) b
-  owned-blamed w ws m named low h i =
-      record {
-        given = given-owner o earlier (NameIs o earlier w) (fields ws) m owner named low twice
-            bad_owner (faulty (fault_of b.code)) h.given;
-        number = number_by o earlier (owned w ws) (fault_of b.code) b.number n h.detail;
-        word = word_by o earlier (owned w ws) (fault_of b.code) b.number n b.words h.detail i;
-      }
+-- a record with this owner, which is that of an entry of this kind in lower case, by its fields
+module _ (o : DomainName) (earlier : List Entry) (s : EntryKind) (code : FileFault)
+    (Owner : DomainName → Type 0) (m owner : DomainName) (is : Owner m) (low : owner ≡ folded m)
+    (twice : folded owner ≡ owner)
+    (gives_as : (given : EntryMeaning)
+    → RecordGives o earlier code Owner (fields (record_words s)) given → KindGives o earlier s given)
+  where
+    pub kind-blamed : (b : Blame) (n : ℕ)
+        → FieldsBlamed o earlier owner (fields (record_words s)) (fault_of b.code) b.number n
+        → b.words ≡ words_before s + words_to (fault_of b.code) (record_words s) n
+        → Blamed o earlier s b
+    kind-blamed b n h i =
+        let told = told_by o earlier s (fault_of b.code) b.number n b.words h.detail i in
+        record {
+          given = gives_as _ (given-owner o earlier Owner (fields (record_words s)) m owner is low
+              twice code _ h.given);
+          number = told.0;
+          word = told.1;
+        }
 
-  pub unowned-blamed : (ws : List Word) (m : DomainName) → OwnerBefore o earlier m
-      → owner ≡ folded m
-      → FieldsBlamed o earlier owner (fields ws) (fault_of b.code) b.number n
-      → b.words ≡ 0 + words_to (fault_of b.code) ws n → Blamed o earlier (unowned ws) b
-  unowned-blamed ws m named low h i =
-      record {
-        given = given-owner o earlier (OwnerBefore o earlier) (fields ws) m owner named low twice
-            no_owner (faulty (fault_of b.code)) h.given;
-        number = number_by o earlier (unowned ws) (fault_of b.code) b.number n h.detail;
-        word = word_by o earlier (unowned ws) (fault_of b.code) b.number n b.words h.detail i;
-      }
+    pub kind-own : (rs : List ResourceRecord) → FieldsGive o earlier owner (fields (record_words s)) rs
+        → (NeverGives o earlier (fields (record_words s)) → Nothing (KindGives o earlier s))
+        → (Nothing (OriginAfter o earlier s) → ⊥) → KindOwn o earlier s rs
+    kind-own rs h never origin =
+        record {
+          given = elim h [
+            | inl g ↦ inl (gives_as _ (given-owner o earlier Owner (fields (record_words s)) m owner
+                is low twice code _ g))
+            | inr g ↦ inr (never g.0, g.1)
+          ];
+          origin = origin;
+        }
 
 -- a fault of fields by its parts
-pub fields-by : (o : DomainName) (earlier : List Entry) (owner : DomainName) (f : Fields)
-    (r : RecordFault) (code : ReadCode) (number : Option ℕ) (n : ℕ) → r.code ≡ code
+pub fields-by : (o : DomainName) (earlier : List Entry) (owner : DomainName) (f g : Fields)
+    (r : RecordFault) (code : ReadCode) (number : Option ℕ) (n : ℕ) → f ≡ g → r.code ≡ code
     → r.number ≡ number → OwnedGives o earlier owner f (faulty (fault_of code))
     → FieldsDetail o earlier f (fault_of code) number n
-    → FieldsBlamed o earlier owner f (fault_of r.code) r.number n
-fields-by o earlier owner f r code number n p q given detail =
-    record {
-      given = subst (λ c. OwnedGives o earlier owner f (faulty (fault_of c))) (sym p) given;
-      detail = subst (λ c. FieldsDetail o earlier f (fault_of c) r.number n) (sym p)
-          (subst (λ m. FieldsDetail o earlier f (fault_of code) m n) (sym q) detail);
-    }
-
--- a record that gives at most its record, by its fields
-module _ (o : DomainName) (earlier : List Entry) (owner : DomainName) (rs : List ResourceRecord)
-    (last : Option DomainName) (k : Earlier) (known : LooksBackTo o earlier last k)
-    (twice : folded owner ≡ owner) where
-  pub owned-own : (w : Word) (ws : List Word) (m : DomainName) → NameIs o earlier w m
-      → owner ≡ folded m
-      → FieldsGive o earlier owner (fields ws) rs → KindOwn o earlier (owned w ws) rs
-  owned-own w ws m named low h =
-      record {
-        given = elim h [
-          | inl g ↦ inl (given-owner o earlier (NameIs o earlier w) (fields ws) m owner named low
-              twice bad_owner (gives rs) g)
-          | inr g ↦ inr (g.0.owned w m named, g.1)
-        ];
-        origin = λ none. none k.origin known.origin_is;
-      }
-
-  pub unowned-own : (ws : List Word) → last ≡ Some owner
-      → FieldsGive o earlier owner (fields ws) rs → KindOwn o earlier (unowned ws) rs
-  unowned-own ws e h =
-      let before = subst (LastOwner o earlier) e known.owner_is in
-      record {
-        given = elim h [
-          | inl g ↦ inl (given-owner o earlier (OwnerBefore o earlier) (fields ws) before.0 owner
-              before.1 before.2 twice no_owner (gives rs) g)
-          | inr g ↦ inr (g.0.unowned before.0 before.1, g.1)
-        ];
-        origin = λ none. none k.origin known.origin_is;
-      }
-
-pub map-ok : {A E : Type 0} {P Q : A → Type 0} (r : Result A E) → ((a : A) → P a → Q a)
-    → IfOk r P → IfOk r Q
-map-ok (Ok a) f h = f a h
-map-ok (Err e) f h = h
-
-pub map-err : {A E : Type 0} {P Q : E → Type 0} (r : Result A E) → ((e : E) → P e → Q e)
-    → IfErr r P → IfErr r Q
-map-err (Ok a) f h = h
-map-err (Err e) f h = f e h
+    → FieldsBlamed o earlier owner g (fault_of r.code) r.number n
+fields-by o earlier owner f g r code number n same p q given detail =
+    subst (λ x. FieldsBlamed o earlier owner x (fault_of r.code) r.number n) same
+    (rw (p, q) (record { given = given; detail = detail }))
 
 -- the TTL in force is within its limit
 pub in-force_short : (b : Bool) (default stated seen : Option (Option ℕ)) (n : ℕ)
