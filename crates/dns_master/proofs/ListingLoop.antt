@@ -1,7 +1,8 @@
 -- The faults of the entries so far, and of the entries after them.
 use Rattle.dns_master.proofs.Common.{take, take_all, drop, drop_all, ◌≡◌, ℕ, zero, suc, ◌-◌, ◌<◌, not, Bool, true, false, false≢true, List, [], ◌∷◌, ◌++◌, append_assoc, append-nil, length, refl, sym, ap, ◌∙◌, subst, inl, inr, arith, Option, Some, None, Octets, DomainName, ResourceRecord}
 use Rattle.std.proofs.Common.{subst₂, min}
-use Rattle.dns_spec.specs.ZoneText.{most_octets}
+use Rattle.dns_spec.specs.ZoneText.{most_octets, Entry}
+use Rattle.dns_master.proofs.Common.{if◌then◌else◌}
 use Rattle.dns_master.proofs.GivenCount.{few_given}
 use Rattle.std.specs.Bool.{MatchBool}
 use Rattle.dns_spec.specs.EntryPlaces.{PlacedEntry, read_entry, text_after, entries_to_end}
@@ -82,13 +83,14 @@ own-listed o octets past k k' e es list before now now' own so h p more = by_bac
               (so.goes_on fs (own ++ rs) (inr (own, h.given, (rs, refl, g))));
         }
 
--- an entry with a fault after which reading goes on
-fault-listed : (o : DomainName) (octets past : Octets) (k k' : Earlier) (e : PlacedEntry)
+-- an entry with a fault, after which reading goes on or ends
+pub fault-listed : (o : DomainName) (octets past : Octets) (k k' : Earlier) (e : PlacedEntry)
     (es : List PlacedEntry) (list list' : FaultList) (before now : List ResourceRecord)
-    (f : EntryFault) (so : ListedSoFar o octets past k (e ∷ es) list before now)
-    → HasFault o so.earlier e f → is_last f.fault ≡ false → Passed o so.earlier e.entry k'
-    → IsList list' (so.found ++ f ∷ []) → ListedSoFar o octets past k' es list' before now
-fault-listed o octets past k k' e es list list' before now f so h on p longer =
+    (f : EntryFault) (so : ListedSoFar o octets past k (e ∷ es) list before now) (is_over : Bool)
+    → HasFault o so.earlier e f → is_last f.fault ≡ is_over → Passed o so.earlier e.entry k'
+    → IsList list' (so.found ++ f ∷ [])
+    → ListedSoFar o octets past k' (if not is_over then es else []) list' before now
+fault-listed o octets past k k' e es list list' before now f so is_over h on p longer =
     record {
       earlier = p.later;
       known = p.known;
@@ -99,36 +101,15 @@ fault-listed o octets past k k' e es list list' before now f so h on p longer =
       goes_on = λ fs rs g.
           subst (λ x. EntriesGive o [] (entries_to_end octets past) x (so.given ++ rs))
           (sym (append_assoc so.found (f ∷ []) fs))
-          (so.goes_on (f ∷ fs) rs (inl (f, h, (fs, refl, rw on (p.later, p.back, g)))));
+          (so.goes_on (f ∷ fs) rs (inl (f, h, (fs, refl, rw on (rest is_over fs rs g)))));
     }
-
--- an entry with a fault after which reading ends
-last-listed : (o : DomainName) (octets past : Octets) (k : Earlier) (e : PlacedEntry)
-    (es : List PlacedEntry) (list list' : FaultList) (before now : List ResourceRecord)
-    (f : EntryFault) (so : ListedSoFar o octets past k (e ∷ es) list before now)
-    → HasFault o so.earlier e f → is_last f.fault ≡ true
-    → IsList list' (so.found ++ f ∷ []) → ListsOctets o octets past list' before now
-last-listed o octets past k e es list list' before now f so h on longer =
-    record {
-      found = so.found ++ f ∷ [];
-      given = so.given ++ [];
-      are = so.goes_on (f ∷ []) [] (inl (f, h, ([], refl, rw on (refl, refl))));
-      listed = longer;
-      grown = so.grown ∙ ap (λ x. before ++ x) (sym (append-nil so.given));
-    }
-
--- an entry with a fault
-pub fault-taken : (o : DomainName) (octets past : Octets) (k k' : Earlier) (e : PlacedEntry)
-    (es : List PlacedEntry) (list list' : FaultList) (before now : List ResourceRecord)
-    (f : EntryFault) (so : ListedSoFar o octets past k (e ∷ es) list before now) (is_over : Bool)
-    → HasFault o so.earlier e f → is_last f.fault ≡ is_over → Passed o so.earlier e.entry k'
-    → IsList list' (so.found ++ f ∷ [])
-    → MatchBool (not is_over) (ListedSoFar o octets past k' es list' before now)
-    (ListsOctets o octets past list' before now)
-fault-taken o octets past k k' e es list list' before now f so true h is p longer =
-    last-listed o octets past k e es list list' before now f so h is longer
-fault-taken o octets past k k' e es list list' before now f so false h is p longer =
-    fault-listed o octets past k k' e es list list' before now f so h is p longer
+  where
+    rest : (b : Bool) (fs : List EntryFault) (rs : List ResourceRecord)
+        → EntriesGive o p.later (if not b then es else []) fs rs
+        → MatchBool b ((fs ≡ []) × (rs ≡ [])) ((later : List Entry)
+        × LookBack o e.entry so.earlier later × EntriesGive o later es fs rs)
+    rest true fs rs g = g
+    rest false fs rs g = (p.later, p.back, g)
 
 -- no entry is left
 pub all-listed : (o : DomainName) (octets past : Octets) (k : Earlier) (list : FaultList)
@@ -153,15 +134,6 @@ unfolding entries_from
 all-taken o octets past k list before now zero text none so =
     all-listed o octets past k list before now so
 all-taken o octets past k list before now (suc n) text none so = absurd (omega (arith, none))
-
--- what was taken if reading goes on, and if it ends
-pub gone-on : (A B : Type 0) (b : Bool) → b ≡ true → MatchBool b A B → A
-gone-on A B true is h = h
-gone-on A B false is h = absurd (false≢true is)
-
-pub ended : (A B : Type 0) (b : Bool) → b ≡ false → MatchBool b A B → B
-ended A B true is h = absurd (false≢true (sym is))
-ended A B false is h = h
 
 -- a text is examined up to its limit, and one octet past it
 pub text-listed : (o : DomainName) (text octets past : Octets) (list : FaultList)

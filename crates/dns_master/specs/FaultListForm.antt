@@ -1,6 +1,5 @@
 -- A list of faults as the code keeps it, and what the faults of a text are.
-use Rattle.std.specs.Prelude.{◌≡◌, ◌≤◌, ◌⊎◌, Bool, List, [], ◌∷◌, ◌++◌, length, map, take, nat_lt, Option}
-use Rattle.std.specs.Bool.{MatchBool}
+use Rattle.std.specs.Prelude.{◌≡◌, ◌≤◌, ◌⊎◌, Bool, List, [], ◌∷◌, ◌++◌, length, map, take, nat_lt, Option, if◌then◌else◌}
 use Rattle.std.specs.Io.KnownBytes.{Consumes, IsAtEnd}
 use Rattle.dns_spec.specs.Names.{Octets, DomainName}
 use Rattle.dns_spec.specs.ZoneText.{Entry}
@@ -52,15 +51,14 @@ pub record ListedSoFar (o : DomainName) (octets past : Octets) (k : Earlier)
       → EntriesGive o earlier es more rs
       → EntriesGive o [] (entries_to_end octets past) (found ++ more) (given ++ rs)
 
--- An entry was taken: its fault is listed, or its records were added. If reading doesn't go on, all
--- faults are listed.
+-- An entry was taken: its fault is listed, or its records were added. If reading doesn't go on, no
+-- further entry counts.
 abbrev pub TakesEntry : Listing → ScannedEntry → List ResourceRecord → Listing
     → List ResourceRecord → Bool → Type 0
 TakesEntry old s now new now' goes_on =
     (o : DomainName) (octets past : Octets) (es : List PlacedEntry) (before : List ResourceRecord)
     → ListedSoFar o octets past old.earlier (placed s ∷ es) old.list before now
-    → MatchBool goes_on (ListedSoFar o octets past new.earlier es new.list before now')
-    (ListsOctets o octets past new.list before now')
+    → ListedSoFar o octets past new.earlier (if goes_on then es else []) new.list before now'
 
 -- a source was read to its end, or up to one octet past the limit
 pub record ReadsOctets (old new : Option Octets) (text : Octets) : Type 0 where

@@ -1,6 +1,6 @@
-use Rattle.dns_master.proofs.Common.{◌-◌, ◌∙◌, ap, sym, length, take_all, arith, rules, Some, None, token_words}
+use Rattle.dns_master.proofs.Common.{◌≡◌, true, false, ◌-◌, ◌∙◌, ap, sym, length, take_all, arith, rules, Some, None, token_words}
 use Rattle.dns_spec.specs.EntryPlaces.{text_after}
-use Rattle.dns_master.proofs.ListingLoop.{first-entry, entries-left, all-listed, all-taken, gone-on, ended}
+use Rattle.dns_master.proofs.ListingLoop.{first-entry, entries-left, all-listed, all-taken}
 use Rattle.dns_master.proofs.listing.list_octets.Goals as goal
 
 pub take-requires : goal.take-requires
@@ -23,15 +23,17 @@ take-requires g c =
 
 pub returns-then-not-branch : goal.returns-then-not-branch
 returns-then-not-branch g c =
-    ended _ _ c.in_ok-take.field-0 (search rules) (c.in_ok-take.ensures _ _ _ _ _
+    let over : c.in_ok-take.field-0 ≡ false = search rules in
+    all-listed _ _ _ _ _ _ _ (rw over at (c.in_ok-take.ensures _ _ _ _ _
     (first-entry _ _ _ _ _ _ _ c.entries.left c.entries.rest.now c.entries-test.true
-    c.entries.invariant.listed))
+    c.entries.invariant.listed)))
 
 pub entries-preserved : goal.entries-preserved
 entries-preserved g c =
     let left = c.entries.left in
     let text = c.entries.rest.now in
-    let so = gone-on _ _ c.in_ok-take.field-0 (search rules) (c.in_ok-take.ensures _ _ _ _ _
+    let on : c.in_ok-take.field-0 ≡ true = search rules in
+    let so = rw on at (c.in_ok-take.ensures _ _ _ _ _
     (first-entry _ _ _ _ _ _ _ left text c.entries-test.true c.entries.invariant.listed)) in
     let found = c.in_ok-ending.ensures in
     let bound = found.bound in
@@ -50,7 +52,8 @@ returns-in-None g c =
     let text = c.entries.rest.now in
     let is = c.in_ok-ending.ensures.reads (length c.args.octets.now - length text) (length text)
     (omega arith) in
-    let so = gone-on _ _ c.in_ok-take.field-0 (search rules) (c.in_ok-take.ensures _ _ _ _ _
+    let on : c.in_ok-take.field-0 ≡ true = search rules in
+    let so = rw on at (c.in_ok-take.ensures _ _ _ _ _
     (first-entry _ _ _ _ _ _ _ left text c.entries-test.true c.entries.invariant.listed)) in
     all-listed _ _ _ _ _ _ _ (entries-left _ _ _ _ _ _ _ (left - 1) text None
     (ap text_after is.1 ∙ c.in-None.ensures.value) so)
