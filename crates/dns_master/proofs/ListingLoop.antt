@@ -1,5 +1,5 @@
 -- The faults of the entries so far, and of the entries after them.
-use Rattle.dns_master.proofs.Common.{take, take_all, drop, drop_all, ◌≡◌, ℕ, zero, suc, ◌-◌, ◌<◌, not, Bool, true, false, false≢true, List, [], ◌∷◌, ◌++◌, append_assoc, append-nil, length, refl, sym, ap, ◌∙◌, subst, inl, inr, arith, Option, Some, None, Octets, DomainName, ResourceRecord}
+use Rattle.dns_master.proofs.Common.{take, take_all, drop, drop_all, ◌≡◌, ℕ, zero, suc, ◌-◌, ◌<◌, not, Bool, true, false, List, [], ◌∷◌, ◌++◌, append_assoc, append-nil, length, refl, sym, ap, ◌∙◌, subst, inl, inr, arith, Option, Some, None, Octets, DomainName, ResourceRecord}
 use Rattle.std.proofs.Common.{subst₂, min}
 use Rattle.dns_spec.specs.ZoneText.{most_octets, Entry}
 use Rattle.dns_master.proofs.Common.{if◌then◌else◌}

@@ -2,22 +2,24 @@
 use Rattle.dns_master.proofs.Common.{cut, lower_case, lowered-twice, IsKept, ◌⊎◌, ◌≡◌, ℕ, ◌+◌, ◌-◌, ◌≤◌, Bool, true, false, List, [], ◌∷◌, length, drop, prefix_len, prefix_len-le-length, refl, sym, ap, ◌∙◌, subst, inl, inr, arith, codes, Option, Some, None, false≢true, is_none, Octets, DomainName, folded, SpellsName, ResourceRecord, Word, Says, Entry, FileFault, bad_data, bad_type, bad_owner, no_owner, no_ttl, other_class, too_many_records, directive_words, Nothing, Lowest, IsRecord, Fields, fields, EntryKind, directive, EntryMeaning, faulty, gives, OriginIs, NameIs, OwnerBefore, TtlSays, ttl_in_force, TypeIs, DataIs, IsNoTtl, is_other_class, not, are_too_many, RecordGives, KindGives, MatchOption, IsTrue, option_or, nat_le, ◌==◌}
 use Rattle.std.specs.Bool.{MatchBool}
 use Rattle.dns_spec.specs.FileFaults.{bad_octet, bad_escape, unended_string, bad_parenthesis, unknown_directive, bad_ttl, too_long, unreadable, no_memory}
-use Rattle.dns_spec.specs.Meaning.{class_after, ttl_after, is_ttl_word, is_class_word}
+use Rattle.dns_master.proofs.Common.{same_text, none-some}
+use Rattle.dns_spec.specs.Names.{octets_equal}
+use Rattle.dns_spec.specs.Meaning.{DirectiveSays, class_after, ttl_after, is_ttl_word, is_class_word}
 use Rattle.dns_spec.specs.Data.{Field}
 use Rattle.dns_spec.specs.DataText.{word_fields_of}
 use Rattle.dns_spec.specs.DataFaults.{DataFaultIs}
-use Rattle.dns_spec.specs.AllFaults.{FaultyField, FaultyUnknown, FaultyTyped, FaultyData, NumberIs, record_words, words_before}
+use Rattle.dns_spec.specs.AllFaults.{FaultyArgument, FaultyDirective, FaultyField, FaultyUnknown, FaultyTyped, FaultyData, NumberIs, record_words, words_before}
 use Rattle.dns_spec.proofs.ZoneTexts.GivenRecords.{record_given}
 use Rattle.dns_spec.proofs.ZoneTexts.OneMeaning.{type_once}
 use Rattle.std.specs.Option.{is_some, ForSome}
 use Rattle.dns_master.specs.EarlierForm.{SeenTtl, LooksBack, OriginAfter}
 use Rattle.std.specs.Prelude.{◌↔◌, ◌<◌}
-use Rattle.dns_master.proofs.Common.{ReadCode, DirectiveWords, fault_of, length-drop, cond}
+use Rattle.dns_master.proofs.Common.{ReadCode, fault_of, length-drop, cond}
 use Rattle.dns_master.proofs.Common.{if◌then◌else◌}
 use Rattle.dns_master.specs.declared.earlier.Earlier.{Earlier}
 use Rattle.dns_master.specs.declared.earlier.Blame.{Blame}
 use Rattle.dns_master.specs.declared.earlier.RecordFault.{RecordFault}
-use Rattle.dns_master.specs.TakeForm.{BlamedWord, Blamed, KindOwn, NeverGives, FieldsGive, OwnedGives, FieldsDetail, FieldsBlamed, words_to, one_unless}
+use Rattle.dns_master.specs.TakeForm.{ForSomeIf, directive_name, BlamedWord, Blamed, KindOwn, NeverGives, FieldsGive, OwnedGives, FieldsDetail, FieldsBlamed, words_to, one_unless}
 
 -- one of two cases, by a test
 by_test : {X Y C : Type 0} (b : Bool) → (X → C) → (Y → C) → MatchBool b X Y → C
@@ -303,55 +305,74 @@ pub blamed-by : (o : DomainName) (earlier : List Entry) (s : EntryKind) (b : Bla
 blamed-by o earlier s b code number i p q r given number_is word =
     record { given = rw p given; number = rw (p, q) number_is; word = rw (p, r) word }
 
-pub said-by : (w : Word) (v : Option ℕ) → ((n : ℕ) → (v ≡ Some n) ↔ TtlSays w n)
-    → is_none v ≡ false → (n : ℕ) × TtlSays w n
-said-by w (Some n) h e = (n, (h n).0 refl)
-said-by w None h e = absurd (false≢true (sym e))
+-- whether the first argument of `$TTL` is a TTL, and that of `$ORIGIN` a name
+pub argument-says : (w : Word) (v : Option ℕ) → ((n : ℕ) → (v ≡ Some n) ↔ TtlSays w n)
+    → ForSomeIf (is_some v) (TtlSays w)
+argument-says w (Some n) h = (n, (h n).0 refl)
+argument-says w None h = λ n says. none-some n ((h n).1 says)
 
-module _ (o : DomainName) (earlier : List Entry) (k : Earlier) (known : LooksBack o earlier k)
-    (w : Word) where
-  -- the first argument of `$ORIGIN` is a name
-  module _ (n : DomainName) (plain : w.is_quoted ≡ false) (spelled : SpellsName k.origin w.raw n)
-    where
-      named_word : NameIs o earlier w n
-      named_word = (rw plain refl, (k.origin, known.origin_is, spelled))
+pub argument-named : (o : DomainName) (earlier : List Entry) (w : Word) (origin n : DomainName)
+    → OriginIs o earlier origin → SpellsName origin w.raw n
+    → ForSomeIf (not w.is_quoted) (NameIs o earlier w)
+argument-named o earlier w origin n is spelled = go w.is_quoted refl
+  where
+    go : (b : Bool) → w.is_quoted ≡ b → ForSomeIf (not w.is_quoted) (NameIs o earlier w)
+    go true e = rw e (λ m h. false≢true h.0)
+    go false e = rw e (n, (refl, (origin, is, spelled)))
 
-      pub origin-blamed : (ws : List Word) (b : Blame) → 0 < length ws → b.code ≡ DirectiveWords
-          → b.number ≡ None → b.words ≡ 2
-          → Blamed o earlier (directive (codes "$origin") (w ∷ ws)) b
-      origin-blamed [] b some p q r = absurd (omega (arith, some))
-      origin-blamed (v ∷ ws) b some p q r =
-          blamed-by o earlier (directive (codes "$origin") (w ∷ v ∷ ws)) b DirectiveWords None 2
-          p q r
-          (inl ((λ m h. h), refl)) refl (inr ((λ none. none n named_word), refl))
+-- the arguments of a directive, by the first one
+module _ {A : Type 0} (P : A → Word → Type 0) (w : Word) where
+  first-faulty : (ws : List Word) → Nothing (λ v. P v w)
+      → DirectiveSays P (w ∷ ws) (faulty directive_words) × FaultyArgument P (w ∷ ws) 1
+  first-faulty [] h = (inl (h, refl), inl (h, refl))
+  first-faulty (v ∷ more) h = (inl ((λ m k. k), refl), inl (h, refl))
 
-      pub origin-own : (ws : List Word) → length ws ≡ 0
-          → KindOwn o earlier (directive (codes "$origin") (w ∷ ws)) []
-      origin-own (v ∷ ws) none = absurd (omega (arith, none))
-      origin-own [] none =
-          record {
-            given = inl (inr ((λ none. none n named_word), refl));
-            origin = λ none. none n (k.origin, known.origin_is, spelled);
-          }
+  second-faulty : (ws : List Word) → (v : A) × P v w → 0 < length ws
+      → DirectiveSays P (w ∷ ws) (faulty directive_words) × FaultyArgument P (w ∷ ws) 2
+  second-faulty [] h some = absurd (omega (arith, some))
+  second-faulty (v ∷ more) h some = (inl ((λ m k. k), refl), inr ((λ none. none h.0 h.1), refl))
 
-  -- the first argument of `$TTL` is a TTL
-  module _ (n : ℕ) (says : TtlSays w n) where
-    pub default-blamed : (ws : List Word) (b : Blame) → 0 < length ws → b.code ≡ DirectiveWords
-        → b.number ≡ None → b.words ≡ 2
-        → Blamed o earlier (directive (codes "$ttl") (w ∷ ws)) b
-    default-blamed [] b some p q r = absurd (omega (arith, some))
-    default-blamed (v ∷ ws) b some p q r =
-        blamed-by o earlier (directive (codes "$ttl") (w ∷ v ∷ ws)) b DirectiveWords None 2 p q r
-        (inl ((λ m h. h), refl)) refl (inr ((λ none. none n says), refl))
+  only-one : (ws : List Word) → (v : A) × P v w → length ws ≡ 0
+      → DirectiveSays P (w ∷ ws) (gives [])
+  only-one [] h none = inr ((λ none. none h.0 h.1), refl)
+  only-one (v ∷ more) h none = absurd (omega (arith, none))
 
-    pub default-own : (ws : List Word) → length ws ≡ 0
-        → KindOwn o earlier (directive (codes "$ttl") (w ∷ ws)) []
-    default-own (v ∷ ws) none = absurd (omega (arith, none))
-    default-own [] none =
-        record {
-          given = inl (inr ((λ none. none n says), refl));
-          origin = λ none. none k.origin known.origin_is;
-        }
+module _ (o : DomainName) (earlier : List Entry) (w : Word) (ws : List Word) where
+  abbrev Argument : Bool → Bool → Type 0
+  Argument is_origin valid =
+      MatchBool is_origin (ForSomeIf valid (NameIs o earlier w)) (ForSomeIf valid (TtlSays w))
+
+  abbrev Faulty : Bool → ℕ → Type 0
+  Faulty is_origin i =
+      KindGives o earlier (directive (directive_name is_origin) (w ∷ ws)) (faulty directive_words)
+      × FaultyDirective o earlier (directive (directive_name is_origin) (w ∷ ws)) i
+
+  pub first-argument : (is_origin : Bool) → Argument is_origin false → Faulty is_origin 1
+  first-argument true h = first-faulty (λ n v. NameIs o earlier v n) w ws h
+  first-argument false h = first-faulty (λ n v. TtlSays v n) w ws h
+
+  pub second-argument : (is_origin : Bool) → Argument is_origin true → 0 < length ws
+      → Faulty is_origin 2
+  second-argument true h some = second-faulty (λ n v. NameIs o earlier v n) w ws h some
+  second-argument false h some = second-faulty (λ n v. TtlSays v n) w ws h some
+
+  pub one-argument : (k : Earlier) → LooksBack o earlier k → (is_origin : Bool)
+      → Argument is_origin true → length ws ≡ 0
+      → KindOwn o earlier (directive (directive_name is_origin) (w ∷ ws)) []
+  one-argument k known true h none = record {
+    given = inl (only-one (λ n v. NameIs o earlier v n) w ws h none);
+    origin = λ nowhere. nowhere h.0 h.1.1;
+  }
+  one-argument k known false h none = record {
+    given = inl (only-one (λ n v. TtlSays v n) w ws h none);
+    origin = λ nowhere. nowhere k.origin known.origin_is;
+  }
+
+pub name-is : (is_origin : Bool) (name : Octets) → is_origin ≡ octets_equal name (codes "$origin")
+    → (is_origin ≡ false → octets_equal name (codes "$ttl") ≡ true)
+    → name ≡ directive_name is_origin
+name-is true name e h = same_text name (codes "$origin") e
+name-is false name e h = same_text name (codes "$ttl") (sym (h refl))
 
 otherwise : {F N X Y : Type 0} → (X → Y) → F ⊎ (N × X) → F ⊎ (N × Y)
 otherwise f (inl h) = inl h

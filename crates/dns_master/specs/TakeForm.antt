@@ -1,13 +1,14 @@
 -- What an entry without a lexical fault gives, or why it is faulty, by what is known of the entries
 -- before it.
-use Rattle.std.specs.Prelude.{⊤, ◌≡◌, ◌≢◌, ◌⊎◌, ℕ, ◌+◌, ◌-◌, Bool, List, [], ◌∷◌, length, Option, None, Some, IsTrue, if◌then◌else◌}
-use Rattle.dns_spec.specs.Names.{DomainName}
+use Rattle.std.specs.Prelude.{⊤, ◌≡◌, ◌≢◌, ◌⊎◌, ℕ, ◌+◌, ◌-◌, Bool, List, [], ◌∷◌, length, Option, None, Some, IsTrue, codes, if◌then◌else◌}
+use Rattle.std.specs.Bool.{MatchBool}
+use Rattle.dns_spec.specs.Names.{Octets, DomainName}
 use Rattle.dns_spec.specs.DataText.{Word}
 use Rattle.dns_spec.specs.DataFaults.{DataFaultIs}
 use Rattle.dns_spec.specs.ZoneText.{Entry}
 use Rattle.dns_spec.specs.Records.{ResourceRecord}
 use Rattle.dns_spec.specs.FileFaults.{FileFault, bad_ttl, other_class, bad_type, no_ttl, bad_data, bad_owner, no_owner, too_many_records}
-use Rattle.dns_spec.specs.Meaning.{Nothing, EntryKind, EntryMeaning, gives, faulty, KindGives, RecordGives, NameIs, OwnerBefore, Fields, fields, IsNoTtl, is_other_class, is_ttl_word, is_class_word}
+use Rattle.dns_spec.specs.Meaning.{Nothing, EntryKind, EntryMeaning, gives, faulty, KindGives, RecordGives, NameIs, TtlSays, OwnerBefore, Fields, fields, IsNoTtl, is_other_class, is_ttl_word, is_class_word}
 use Rattle.dns_spec.specs.AllFaults.{FaultyWord, NumberIs, ForData, FaultyData}
 use Rattle.dns_master.specs.Codes.{fault_of}
 use Rattle.dns_master.specs.EarlierForm.{LooksBack, LooksBackTo, OriginAfter}
@@ -47,6 +48,20 @@ pub record KindOwn (o : DomainName) (earlier : List Entry) (s : EntryKind)
 abbrev pub GivesKind : Earlier → EntryKind → List ResourceRecord → Type 0
 GivesKind k s rs =
     (o : DomainName) (earlier : List Entry) → LooksBack o earlier k → KindOwn o earlier s rs
+
+-- the name of a directive, in lower case
+abbrev pub directive_name : Bool → Octets
+directive_name is_origin = if is_origin then codes "$origin" else codes "$ttl"
+
+-- P holds for a value if `valid` is true, and else for none
+abbrev pub ForSomeIf : {A : Type 0} → Bool → (A → Type 0) → Type 0
+ForSomeIf {A} valid P = MatchBool valid ((v : A) × P v) (Nothing P)
+
+-- whether the word is a valid first argument of a directive, whatever entries are known
+abbrev pub ArgumentIs : Earlier → Bool → Word → Bool → Type 0
+ArgumentIs k is_origin w valid =
+    (o : DomainName) (earlier : List Entry) → LooksBack o earlier k
+    → MatchBool is_origin (ForSomeIf valid (NameIs o earlier w)) (ForSomeIf valid (TtlSays w))
 
 -- what a record with this owner and these fields gives
 abbrev pub OwnedGives : DomainName → List Entry → DomainName → Fields → EntryMeaning → Type 0

@@ -183,5 +183,5 @@ impl Listing {
 fn ends_list(code: ReadCode) -> bool
     ensures { result ≡ all.is_last (fault_of code) }
 {
-    code.number() >= 14
+    code.number() >= ReadCode::TooManyRecords.number()
 }

@@ -28,7 +28,7 @@ pub struct EntryFault {
     pub number: Option<u8>,
     /// The place of the fault.
     pub place: Span,
-    /// The number of octets before the entry.
+    /// The offset of the entry: the number of octets before it.
     pub entry: usize,
 }
 

@@ -1,10 +1,11 @@
 //! Takes entries, faulty or not, one after another (RFC 1035 5.1).
-ghost use Rattle.std.specs.Prelude.{◌≡◌, ◌≤◌, ◌++◌, ◌+◌, [], length, codes, IfOk, IfErr, OnOk, if◌then◌else◌};
+ghost use Rattle.std.specs.Prelude.{◌≡◌, ◌≤◌, ◌++◌, ◌+◌, [], ◌∷◌, List, length, IfOk, IfErr, OnOk, if◌then◌else◌};
 ghost use Rattle.std.specs.Option.{option_copied, option_or};
 ghost use Rattle.dns_spec.specs.TypeText.{text_in_lower_case};
 ghost use Rattle.dns_spec.specs.Meaning.{directive, fields, is_directive, kind_by_words};
 ghost use Rattle.dns_master.specs.EarlierForm.{LooksBack, Passes, RecordPassed, handed};
-ghost use Rattle.dns_master.specs.TakeForm.{Blames, GivesKind, FieldsOwn, FieldsBlames, RecordBlames};
+ghost use Rattle.dns_master.specs.TakeForm.{ArgumentIs, Blames, GivesKind, FieldsOwn, FieldsBlames, RecordBlames, directive_name};
+ghost use Rattle.dns_spec.specs.DataText as text;
 
 use crate::blame::{data_fault, owner_blame, record_blame};
 use crate::earlier::{Blame, Earlier, RecordFault};
@@ -93,6 +94,7 @@ impl Earlier {
         self.take_record(1, others, buffers)
     }
 
+    // Takes a directive. Its first argument counts for later entries even if the directive is faulty.
     fn take_directive(&mut self, name: &[u8], words: &[Word<'_>]) -> Result<(), Blame>
         ensures passed { Passes self.old
             (directive (text_in_lower_case name.now) words.now) self.new }
@@ -101,62 +103,40 @@ impl Earlier {
         ensures err { IfErr result (Blames self.old
             (directive (text_in_lower_case name.now) words.now)) }
     {
-        if is_word(b"$origin", name) {
-            return self.take_origin(words);
+        let is_origin = is_word(b"$origin", name);
+        if !is_origin && !is_word(b"$ttl", name) {
+            return Err(Blame::after(0, ReadCode::UnknownDirective));
         }
-        if is_word(b"$ttl", name) {
-            return self.take_default(words);
-        }
-        Err(Blame::after(0, ReadCode::UnknownDirective))
-    }
-
-    // Takes `$ORIGIN`. If its first argument is a name, this is the origin from now on, even if the
-    // directive is faulty.
-    fn take_origin(&mut self, words: &[Word<'_>]) -> Result<(), Blame>
-        ensures passed { Passes self.old (directive (codes "$origin") words.now)
-            self.new }
-        ensures ok { OnOk result (GivesKind self.old
-            (directive (codes "$origin") words.now) []) }
-        ensures err { IfErr result (Blames self.old
-            (directive (codes "$origin") words.now)) }
-    {
         let Some((first, others)) = words.split_first() else {
             return Err(Blame::after(0, ReadCode::DirectiveWords));
         };
-        let Ok(origin) = Name::read_text(first.raw, &self.origin) else {
+        if !self.take_argument(is_origin, first) {
             return Err(Blame::after(1, ReadCode::DirectiveWords));
+        }
+        if !others.is_empty() {
+            return Err(Blame::after(2, ReadCode::DirectiveWords));
+        }
+        Ok(())
+    }
+
+    // Takes the first argument of `$ORIGIN`, or else of `$TTL`, and returns whether it is valid. If
+    // it is a name, even a quoted one, this is the origin from now on. A TTL, even an invalid one,
+    // is the default TTL from now on.
+    fn take_argument(&mut self, is_origin: bool, argument: &Word<'_>) -> bool
+        ensures passed { (others : List text.Word) → Passes self.old
+            (directive (directive_name is_origin) (argument.now ∷ others)) self.new }
+        ensures valid { ArgumentIs self.old is_origin argument.now result }
+    {
+        if !is_origin {
+            let ttl = read_ttl(argument);
+            self.default_ttl = Some(ttl);
+            return ttl.is_some();
+        }
+        let Ok(origin) = Name::read_text(argument.raw, &self.origin) else {
+            return false;
         };
         self.origin = origin;
-        if first.quoted {
-            return Err(Blame::after(1, ReadCode::DirectiveWords));
-        }
-        if !others.is_empty() {
-            return Err(Blame::after(2, ReadCode::DirectiveWords));
-        }
-        Ok(())
-    }
-
-    // Takes `$TTL`. Its first argument, even an invalid one, is the default TTL from now on.
-    fn take_default(&mut self, words: &[Word<'_>]) -> Result<(), Blame>
-        ensures passed { Passes self.old (directive (codes "$ttl") words.now)
-            self.new }
-        ensures ok { OnOk result (GivesKind self.old
-            (directive (codes "$ttl") words.now) []) }
-        ensures err { IfErr result (Blames self.old
-            (directive (codes "$ttl") words.now)) }
-    {
-        let Some((first, others)) = words.split_first() else {
-            return Err(Blame::after(0, ReadCode::DirectiveWords));
-        };
-        let ttl = read_ttl(first);
-        self.default_ttl = Some(ttl);
-        if ttl.is_none() {
-            return Err(Blame::after(1, ReadCode::DirectiveWords));
-        }
-        if !others.is_empty() {
-            return Err(Blame::after(2, ReadCode::DirectiveWords));
-        }
-        Ok(())
+        !argument.quoted
     }
 
     // Takes a record whose owner is in `last`, from the words after its owner, which follow
