@@ -7,10 +7,10 @@ use Rattle.dns_master.proofs.GivenCount.{few_given}
 use Rattle.std.specs.Bool.{MatchBool}
 use Rattle.dns_spec.specs.EntryPlaces.{PlacedEntry, read_entry, text_after, entries_to_end}
 unfoldable use Rattle.dns_spec.specs.EntryPlaces.{entries_from}
-use Rattle.dns_spec.specs.AllFaults.{EntryFault, EntriesGive, HasFault, LookBack, is_last}
+use Rattle.dns_spec.specs.AllFaults.{AllFaults, EntryFault, EntriesGive, HasFault, LookBack, is_last}
 use Rattle.dns_master.specs.EarlierForm.{LooksBack, Passed}
 use Rattle.dns_master.specs.ListingForm.{EntryOwn, entry_at}
-use Rattle.dns_master.specs.FaultListForm.{IsList, ListsOctets, ListsText, ListedSoFar}
+use Rattle.dns_master.specs.FaultListForm.{IsList, ListsText, ListedSoFar}
 use Rattle.dns_master.specs.declared.earlier.Earlier.{Earlier}
 use Rattle.dns_master.specs.declared.listing.FaultList.{FaultList}
 
@@ -111,49 +111,40 @@ fault-listed o octets past k k' e es list list' before now f so is_over h on p l
     rest true fs rs g = g
     rest false fs rs g = (p.later, p.back, g)
 
--- no entry is left
-pub all-listed : (o : DomainName) (octets past : Octets) (k : Earlier) (list : FaultList)
-    (before now : List ResourceRecord) → ListedSoFar o octets past k [] list before now
-    → ListsOctets o octets past list before now
-all-listed o octets past k list before now so =
+take_less : {A : Type 0} (m : ℕ) (xs : List A) → take (min (length xs) m) xs ≡ take m xs
+take_less m xs = grind (arith, take_all)
+
+drop_less : {A : Type 0} (m : ℕ) (xs : List A) → drop (min (length xs) m) xs ≡ drop m xs
+drop_less m xs = grind (arith, drop_all)
+
+-- no entry is left of a text, which is examined up to its limit, and one octet past it
+pub all-listed : (o : DomainName) (text octets rest past : Octets) (n m : ℕ) (k : Earlier)
+    (list : FaultList) (before now : List ResourceRecord) → octets ≡ take n text
+    → rest ≡ drop n text → n ≡ min (length text) most_octets → past ≡ take m rest
+    → m ≡ min (length rest) 1 → ListedSoFar o octets past k [] list before now
+    → ListsText o text list before now
+all-listed o text octets rest past n m k list before now is back n_is front m_is so =
+    let octets_are = is ∙ ap (λ n. take n text) n_is ∙ take_less most_octets text in
+    let past_is = front ∙ ap (λ m. take m rest) m_is ∙ take_less 1 rest
+    ∙ ap (take 1) (back ∙ ap (λ n. drop n text) n_is ∙ drop_less most_octets text) in
+    let are : AllFaults o text so.found so.given =
+    subst₂ (λ x y. EntriesGive o [] (entries_to_end x y) so.found so.given) octets_are past_is
+    (subst₂ (EntriesGive o [] (entries_to_end octets past)) (append-nil so.found)
+    (append-nil so.given) (so.goes_on [] [] (refl, refl))) in
     record {
       found = so.found;
       given = so.given;
-      are = subst₂ (EntriesGive o [] (entries_to_end octets past)) (append-nil so.found)
-          (append-nil so.given) (so.goes_on [] [] (refl, refl));
+      are = are;
       listed = so.listed;
       grown = so.grown;
+      few = few_given o _ so.found so.given are;
     }
 
 -- as many entries were taken as a text may have
-pub all-taken : (o : DomainName) (octets past : Octets) (k : Earlier) (list : FaultList)
+pub none-left : (o : DomainName) (octets past : Octets) (k : Earlier) (list : FaultList)
     (before now : List ResourceRecord) (left : ℕ) (text : Octets) → left ≡ 0
     → ListedSoFar o octets past k (entries_from left (length octets) past text) list before now
-    → ListsOctets o octets past list before now
+    → ListedSoFar o octets past k [] list before now
 unfolding entries_from
-all-taken o octets past k list before now zero text none so =
-    all-listed o octets past k list before now so
-all-taken o octets past k list before now (suc n) text none so = absurd (omega (arith, none))
-
--- a text is examined up to its limit, and one octet past it
-pub text-listed : (o : DomainName) (text octets past : Octets) (list : FaultList)
-    (before after : List ResourceRecord) → octets ≡ take most_octets text
-    → past ≡ take 1 (drop most_octets text) → ListsOctets o octets past list before after
-    → ListsText o text list before after
-text-listed o text octets past list before after is_octets is_past h =
-    let are = subst₂ (λ x y. EntriesGive o [] (entries_to_end x y) h.found h.given)
-    is_octets is_past h.are in
-    record {
-      found = h.found;
-      given = h.given;
-      are = are;
-      listed = h.listed;
-      grown = h.grown;
-      few = few_given o _ h.found h.given are;
-    }
-
-pub take_less : {A : Type 0} (m : ℕ) (xs : List A) → take (min (length xs) m) xs ≡ take m xs
-take_less m xs = grind (arith, take_all)
-
-pub drop_less : {A : Type 0} (m : ℕ) (xs : List A) → drop (min (length xs) m) xs ≡ drop m xs
-drop_less m xs = grind (arith, drop_all)
+none-left o octets past k list before now zero text none so = so
+none-left o octets past k list before now (suc n) text none so = absurd (omega (arith, none))

@@ -19,15 +19,6 @@ pub record IsList (list : FaultList) (found : List EntryFault) : Type 0 where
   pub faults : map shown_fault list.faults.items ≡ take most_listed found
   pub more : list.has_more ≡ nat_lt most_listed (length found)
 
--- the faults of these octets were listed, and the records of their other entries were added
-pub record ListsOctets (o : DomainName) (octets past : Octets) (list : FaultList)
-    (before after : List ResourceRecord) : Type 0 where
-  pub found : List EntryFault
-  pub given : List ResourceRecord
-  pub are : EntriesGive o [] (entries_to_end octets past) found given
-  pub listed : IsList list found
-  pub grown : after ≡ before ++ given
-
 -- all faults of a text were listed, and the records of its other entries were added
 pub record ListsText (o : DomainName) (text : Octets) (list : FaultList)
     (before after : List ResourceRecord) : Type 0 where

@@ -3,8 +3,7 @@ ghost use Rattle.std.specs.Prelude.{◌≡◌, ◌-◌, ◌^◌, ◌<◌, ◌≤
 ghost use Rattle.dns_spec.specs.AllFaults as all;
 ghost use Rattle.dns_master.specs.Codes.{failures_after_read, fault_of};
 ghost use Rattle.dns_master.specs.ListingForm.{IsScanned, shown_fault};
-ghost use Rattle.dns_master.specs.EarlierForm.{LooksBack};
-ghost use Rattle.dns_master.specs.FaultListForm.{IsList, ListsOctets, ListsText, ReadsOctets, TakesEntry};
+ghost use Rattle.dns_master.specs.FaultListForm.{IsList, ListsText, ReadsOctets, TakesEntry};
 
 use crate::earlier::Earlier;
 use crate::entry::read_entry;
@@ -91,25 +90,13 @@ pub fn list_text<C: RecordCollection>(
     ensures { IfOk result (λ list. ListsText origin.now text.now list (C.records collection.old)
         (C.records collection.new)) }
 {
+    // The octets that are examined, and the octet after them, if there is one.
     let (octets, past) = text.split_at(text.len().min(MOST_FILE_OCTETS));
     let (past, _) = past.split_at(past.len().min(1));
-    list_octets(alloc, origin, octets, past, collection)
-}
-
-// Lists the faults of the octets that are examined; `past` is the octet after them, if there is
-// one.
-fn list_octets<C: RecordCollection>(
-    alloc: Global,
-    origin: &Name,
-    octets: &[u8],
-    past: &[u8],
-    collection: &mut C,
-) -> Result<FaultList, AllocError>
-    requires { length octets.now ≤ 16777216 }
-    ensures { IfOk result (λ list. ListsOctets origin.now octets.now past.now list
-        (C.records collection.old) (C.records collection.new)) }
-{
-    let mut listing = Listing::none(alloc, origin);
+    let mut listing = Listing {
+        list: FaultList::none(alloc),
+        earlier: Earlier::none(alloc, origin),
+    };
     let mut buffers = DataBuffers::new(alloc);
     let mut words = Vec::new(alloc);
     let mut rest = octets;
@@ -144,16 +131,6 @@ struct Listing {
 }
 
 impl Listing {
-    fn none(alloc: Global, origin: &Name) -> Listing
-        ensures list { IsList result.list [] }
-        ensures known { LooksBack origin.now [] result.earlier }
-    {
-        Listing {
-            list: FaultList::none(alloc),
-            earlier: Earlier::none(alloc, origin),
-        }
-    }
-
     // Takes an entry: adds its record to the collection, or its fault to the list. Returns whether
     // reading goes on.
     fn take<C: RecordCollection>(

@@ -11,7 +11,7 @@ use crate::pieces::PieceReader;
 use crate::read_fault::{ReadCode, ReadFault};
 use crate::record::Record;
 use crate::record_collection::{RecordCollection, WholeRecords};
-use crate::run::is_blank;
+use crate::run::begins_blank;
 use crate::source::{PIECE, append_piece};
 use dns_name::{Name, Tally};
 use dns_rdata::{DataBuffers, Word};
@@ -112,8 +112,10 @@ impl Reader {
         let Some(rest) = rest_after(ending, goes_on)? else {
             return Ok(None);
         };
-        let is_blank_led = text.first().is_some_and(|first| is_blank(*first));
-        match self.earlier.take(is_blank_led, words.as_slice(), buffers) {
+        match self
+            .earlier
+            .take(begins_blank(text), words.as_slice(), buffers)
+        {
             Ok(taken) => {
                 self.line += lines;
                 Ok(Some((taken, rest)))

@@ -1,6 +1,6 @@
 //! Runs of octets: how far a word, a string, a blank or a comment extends (RFC 1035 5.1).
 ghost use Rattle.std.specs.Prelude.{◌≡◌, ◌==◌, ◌≤◌, true, not, length, take, drop};
-ghost use Rattle.std.specs.List.{list_all, prefix_len, position};
+ghost use Rattle.std.specs.List.{list_all, list_any, prefix_len, position};
 ghost use Rattle.dns_spec.specs.ZoneText.{is_blank, run_length};
 ghost use Rattle.dns_spec.specs.DataText.{is_string_octet, is_word_octet};
 ghost use Rattle.dns_spec.proofs.NameTexts.Escapes.{counted_escape};
@@ -208,7 +208,14 @@ fn after_long_blank(text: &[u8]) -> &[u8]
     rest
 }
 
-pub(crate) fn is_blank(octet: u8) -> bool
+/// Whether a text begins with a space or a tab.
+pub(crate) fn begins_blank(text: &[u8]) -> bool
+    ensures { result ≡ list_any is_blank (take 1 text.now) }
+{
+    text.first().is_some_and(|first| is_blank(*first))
+}
+
+fn is_blank(octet: u8) -> bool
     ensures { result ≡ is_blank octet }
 {
     octet == b' ' || octet == b'\t'

@@ -1,9 +1,6 @@
 //! What an entry of a file gives, or its fault with its place (RFC 1035 section 5).
-ghost use Rattle.std.specs.Prelude.{◌≡◌, ◌-◌, ◌≤◌, ◌<◌, ◌+◌, ◌^◌, length, take, drop, map, nat_lt, None, IfOk};
-ghost use Rattle.std.specs.List.{list_any};
-ghost use Rattle.std.specs.Option.{option_map};
-ghost use Rattle.dns_spec.specs.ZoneText.{extent_by, is_blank};
-ghost use Rattle.dns_spec.specs.EntryPlaces.{empty_place, end_octets, ending_fault, fault_place};
+ghost use Rattle.std.specs.Prelude.{◌≡◌, ◌-◌, ◌≤◌, length, None, IfOk};
+ghost use Rattle.dns_spec.specs.EntryPlaces.{end_octets, fault_place};
 ghost use Rattle.dns_spec.specs.AllFaults.{place_after};
 ghost use Rattle.dns_master.specs.Codes.{fault_of};
 ghost use Rattle.dns_master.specs.EntryForm.{shown_ending};
@@ -14,7 +11,7 @@ use crate::earlier::{Blame, Earlier};
 use crate::entry::{Ending, Step, ending_fault, step_after, word_of};
 use crate::place::{Span, stop_octets, stop_place};
 use crate::read_fault::ReadCode;
-use crate::run::is_blank;
+use crate::run::begins_blank;
 use crate::token::first_token;
 use dns_rdata::{DataBuffers, Word};
 use std::alloc::AllocError;
@@ -64,8 +61,8 @@ impl ScannedEntry<'_, '_> {
         ensures passed { PassesEntry earlier.old self.now earlier.new }
         ensures taken { IfOk result (Judges earlier.old (placed self.now) earlier.new.last) }
     {
-        let taken = earlier.take(self.is_blank_led(), self.words, buffers);
-        if let Some(code) = self.lexical_code() {
+        let taken = earlier.take(begins_blank(self.rest), self.words, buffers);
+        if let Some(code) = ending_fault(self.ending, !self.past.is_empty()) {
             return Ok(Judged::Faulty(self.lexical_fault(code)));
         }
         match taken {
@@ -73,20 +70,6 @@ impl ScannedEntry<'_, '_> {
             Err(blame) if blame.code == ReadCode::NoMemory => Err(AllocError),
             Err(blame) => Ok(Judged::Faulty(self.fault_by(blame))),
         }
-    }
-
-    fn is_blank_led(&self) -> bool
-        ensures { result ≡ list_any is_blank (take 1 self.now.rest.now) }
-    {
-        self.rest.first().is_some_and(|first| is_blank(*first))
-    }
-
-    // The code of the entry's lexical fault, if it has one.
-    fn lexical_code(&self) -> Option<ReadCode>
-        ensures { option_map fault_of result ≡ ending_fault
-            (extent_by (nat_lt 0 (length self.now.past.now))) (shown_ending self.now.ending) }
-    {
-        ending_fault(self.ending, !self.past.is_empty())
     }
 
     // The lexical fault of the entry, which has this code.

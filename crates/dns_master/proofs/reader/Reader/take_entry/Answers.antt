@@ -1,4 +1,4 @@
-use Rattle.dns_master.proofs.Common.{rules, true, false, ◌≡◌, ◌+◌, ◌∷◌, subst, sym, ap, ◌∙◌, arith, refl, unwrap_or, ended, extent_by, EntryKind, KindGives, faulty, gives, line_after, fault_handed_on, kind_of, kind_by_words, fault_of, token_words, length}
+use Rattle.dns_master.proofs.Common.{true, false, ◌≡◌, ◌+◌, ◌∷◌, subst, sym, ap, ◌∙◌, arith, refl, unwrap_or, ended, extent_by, EntryKind, KindGives, faulty, gives, line_after, fault_handed_on, kind_of, kind_by_words, fault_of, token_words, length}
 use Rattle.dns_spec.proofs.ZoneTexts.EntryReading.{ReadsWell}
 use Rattle.dns_master.specs.EntryForm.{WholeBefore, shown_ending}
 use Rattle.dns_master.specs.EarlierForm.{handed}
@@ -8,9 +8,9 @@ use Rattle.dns_master.proofs.TextSteps.{kind-is, entry-means, entry-faulty, ends
 use Rattle.dns_master.proofs.CappedWords.{all-stored, stored-mean}
 use Rattle.dns_master.proofs.PieceSteps.{end-faulty, sure-given, taken-known}
 use Rattle.dns_master.proofs.reader.Reader.take_entry.Goals as goal
-use Rattle.dns_master.proofs.reader.Reader.take_entry.Goals.{After-is_some_and-is_blank_led}
+use Rattle.dns_master.proofs.reader.Reader.take_entry.Goals.{After-begins_blank}
 
-module _ (c : After-is_some_and-is_blank_led) where
+module _ (c : After-begins_blank) where
   -- the entry is complete, whatever follows the text
   whole : WholeBefore c.args.goes_on (shown_ending c.in-Ok.ending) c.in-Some.rest.now
   whole = rw c.in-Some.is at c.in_ok-rest.ensures.ok
@@ -23,8 +23,8 @@ module _ (c : After-is_some_and-is_blank_led) where
 
   -- the kind of the entry, by all its words
   kind : kind_of (ended c.in-Ok.ensures.tokens)
-      ≡ kind_by_words c.is_some_and-is_blank_led.result (token_words c.in-Ok.ensures.tokens)
-  kind = kind-is _ _ _ facts (extent_by true) _ _ (search rules) refl
+      ≡ kind_by_words c.begins_blank.result (token_words c.in-Ok.ensures.tokens)
+  kind = kind-is _ _ _ facts (extent_by true) _ _ c.begins_blank.ensures refl
 
 pub returns-in_err-rest-clause-err : goal.returns-in_err-rest-clause-err
 returns-in_err-rest-clause-err c =
@@ -43,9 +43,9 @@ returns-in_err-rest-clause-err c =
 
 pub returns-in-Err-clause-err : goal.returns-in-Err-clause-err
 returns-in-Err-clause-err c =
-    let at = (goal.at.returns-in-Err-clause-err c).After-is_some_and-is_blank_led in
+    let at = (goal.at.returns-in-Err-clause-err c).After-begins_blank in
     let fault = fault_of c.in-Err.blame.code in
-    let b = c.is_some_and-is_blank_led.result in
+    let b = c.begins_blank.result in
     let stored = c.as_slice.ensures.value ∙ c.in-Ok.ensures.stored in
     record {
       told = λ some more past may o earlier known line.
@@ -60,10 +60,10 @@ returns-in-Err-clause-err c =
 
 pub returns-in-Ok-take-clause-ok : goal.returns-in-Ok-take-clause-ok
 returns-in-Ok-take-clause-ok c =
-    let at = (goal.at.returns-in-Ok-take-clause-ok c).After-is_some_and-is_blank_led in
+    let at = (goal.at.returns-in-Ok-take-clause-ok c).After-begins_blank in
     let e = ended c.in-Ok.ensures.tokens in
     let rs = handed c.in-Ok-take.taken c.take.new.self.last in
-    let b = c.is_some_and-is_blank_led.result in
+    let b = c.begins_blank.result in
     let stored = c.as_slice.ensures.value ∙ c.in-Ok.ensures.stored in
     record {
       taken = λ more past later may h o earlier known line.

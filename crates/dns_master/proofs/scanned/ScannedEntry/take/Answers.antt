@@ -1,16 +1,27 @@
-use Rattle.dns_master.proofs.Common.{rules, ◌≢◌, sym, ap, ◌∙◌, fault_of, NoMemory}
+use Rattle.dns_master.proofs.Common.{rules, arith, not, ◌≡◌, extent_by, nat_lt, length, ◌≢◌, sym, ap, ◌∙◌, fault_of, NoMemory}
 use Rattle.std.specs.Option.{option_map}
+use Rattle.dns_spec.specs.EntryPlaces.{ending_fault}
+use Rattle.std.proofs.lemmas.Grind.{common_steps}
+use Rattle.dns_master.specs.EntryForm.{shown_ending}
 use Rattle.dns_master.specs.EarlierForm.{handed}
 use Rattle.dns_master.specs.ListingForm.{PassesEntry}
 use Rattle.dns_master.proofs.ListingSteps.{stopped-fault, blamed-fault, entry-own, entry-kind}
 use Rattle.dns_master.proofs.scanned.ScannedEntry.take.Goals as goal
-use Rattle.dns_master.proofs.scanned.ScannedEntry.take.Goals.{After-take-taken}
+use Rattle.dns_master.proofs.scanned.ScannedEntry.take.Goals.{After-take-taken, After-ending_fault}
 
 passed : (c : After-take-taken)
     → PassesEntry c.args.earlier.now c.args.self.now c.take-taken.new.self
 passed c = λ h o earlier known.
     c.take-taken.ensures.passed o earlier _ known
-    (entry-kind c.args.self.now h c.is_blank_led.result c.is_blank_led.ensures)
+    (entry-kind c.args.self.now h c.begins_blank.result c.begins_blank.ensures)
+
+fault_is : (c : After-ending_fault) → option_map fault_of c.ending_fault.result
+    ≡ ending_fault (extent_by (nat_lt 0 (length c.args.self.now.past.now)))
+    (shown_ending c.args.self.now.ending)
+fault_is c =
+    let more : not c.is_empty.result ≡ nat_lt 0 (length c.args.self.now.past.now) =
+    grind (arith, common_steps) in
+    rw (← more) c.ending_fault.ensures
 
 pub returns-in-Some-clause-passed : goal.returns-in-Some-clause-passed
 returns-in-Some-clause-passed c =
@@ -30,22 +41,25 @@ pub returns-in-Some-clause-taken : goal.returns-in-Some-clause-taken
 returns-in-Some-clause-taken c = λ o earlier known.
     stopped-fault c.args.self.now c.requires.scanned o earlier c.lexical_fault.result c.in-Some.code
     c.lexical_fault.ensures.code c.lexical_fault.ensures.number c.lexical_fault.ensures.place
-    c.lexical_fault.ensures.entry (sym c.lexical_code.ensures ∙ ap (option_map fault_of)
+    c.lexical_fault.ensures.entry (sym (fault_is (goal.at.returns-in-Some-clause-taken c).After-ending_fault)
+    ∙ ap (option_map fault_of)
     c.in-Some.is)
 
 pub returns-in-Ok-clause-taken : goal.returns-in-Ok-clause-taken
 returns-in-Ok-clause-taken c = λ o earlier known.
     let rs = handed c.in-Ok.is_record c.take-taken.new.self.last in
-    entry-own c.args.self.now c.requires.scanned o earlier c.is_blank_led.result
-    c.is_blank_led.ensures (sym c.lexical_code.ensures ∙ ap (option_map fault_of) c.in_default.is)
+    entry-own c.args.self.now c.requires.scanned o earlier c.begins_blank.result
+    c.begins_blank.ensures (sym (fault_is (goal.at.returns-in-Ok-clause-taken c).After-ending_fault)
+    ∙ ap (option_map fault_of) c.in_default.is)
     rs
     (c.in-Ok.ensures.ok o earlier known)
 
 pub returns-in-Err-2-clause-taken : goal.returns-in-Err-2-clause-taken
 returns-in-Err-2-clause-taken c = λ o earlier known.
     let some : c.in-Err-2.blame.code ≢ NoMemory = search rules in
-    blamed-fault c.args.self.now c.requires.scanned o earlier c.is_blank_led.result
-    c.is_blank_led.ensures (sym c.lexical_code.ensures ∙ ap (option_map fault_of) c.in_default.is)
+    blamed-fault c.args.self.now c.requires.scanned o earlier c.begins_blank.result
+    c.begins_blank.ensures (sym (fault_is (goal.at.returns-in-Err-2-clause-taken c).After-ending_fault)
+    ∙ ap (option_map fault_of) c.in_default.is)
     c.fault_by.result c.in-Err-2.blame c.fault_by.ensures.code c.fault_by.ensures.number
     c.fault_by.ensures.place c.fault_by.ensures.entry
     (c.in-Err-2.ensures.err some o earlier known)

@@ -1,7 +1,7 @@
 use Rattle.dns_master.proofs.Common.{◌≤◌, length}
 use Rattle.dns_spec.specs.EntryPlaces.{entries_from}
 use Rattle.dns_master.specs.FaultListForm.{ListedSoFar}
-use Rattle.dns_master.proofs.listing.list_octets.Given as goal
+use Rattle.dns_master.proofs.listing.list_text.Given as goal
 
 -- the faults of the entries so far, and the entries after them
 abbrev pub invariant-entries : goal.invariant-entries
