@@ -36,7 +36,8 @@ second-cut : (k : ℕ) (b : Bool) (ttl ttl' class class' : Option Word) (w v : W
     (if b then record { ttl = ttl; class = class; others = ws }
     else record { ttl = ttl'; class = class'; others = v ∷ ws })
 second-cut k b ttl ttl' class class' w v ws =
-    cut-either _ _ b _ _ _ _ (k, omega arith, omega arith, refl) (suc k, omega arith, omega arith, refl)
+    cut-either _ _ b _ _ _ _ (k, omega arith, omega arith, refl)
+    (suc k, omega arith, omega arith, refl)
 
 fields-cut : (k : ℕ) (ws : List Word)
     → Cut (suc (suc k)) (length ws) (fields (take (suc (suc k)) ws)) (fields ws)

@@ -18,6 +18,8 @@ unfolding xor
 closing_misplaced true = refl
 closing_misplaced false = refl
 
+pub ruleset misplaced_steps = (opening_misplaced, closing_misplaced)
+
 module _ (k : ℕ) (b : Bool) (before : ℕ) (text others : Octets) (p : Token)
     (front : token_front text ≡ Some (p, others)) where
   abbrev pub passed : ℕ
@@ -211,7 +213,8 @@ read-facts (suc k) b before text few =
             subst (Read b text) (sym (goes_on k b before text others p e is line)) (record {
               turns = one_turn b p (tokens_of after.0) is h.turns;
               begins = first;
-              grows = λ more. more-grows b text others p e more (tokens_of after.0) after.1 (h.grows more);
+              grows = λ more.
+                  more-grows b text others p e more (tokens_of after.0) after.1 (h.grows more);
             })
 
 -- what an entry that the code read has

@@ -81,7 +81,8 @@ module _ (o : DomainName) (earlier : List Entry) (own : List ResourceRecord) whe
 
     single_fits : is_record e ≡ true → One → Fits
     single_fits is h =
-        subst (λ n. n + records_left (e ∷ earlier) ≤ records_left earlier) (sym h.one) (one_fits earlier e is h.few)
+        subst (λ n. n + records_left (e ∷ earlier) ≤ records_left earlier) (sym h.one)
+        (one_fits earlier e is h.few)
 
     kind_fits : (s : EntryKind) → kind_of e ≡ s → KindGives o earlier s (gives own) → Fits
     kind_fits no_words is h = nothing_fits (own_is own [] h)
@@ -103,7 +104,8 @@ back_fits : (o : DomainName) (e : Entry) (earlier now : List Entry) → LookBack
     → records_left now ≤ records_left earlier
 back_fits o e earlier now (inl (_, is)) =
     subst (λ l. records_left l ≤ records_left earlier) (sym is) (none_fits earlier e)
-back_fits o e earlier now (inr (_, is)) = subst (λ l. records_left l ≤ records_left earlier) (sym is) (omega arith)
+back_fits o e earlier now (inr (_, is)) =
+    subst (λ l. records_left l ≤ records_left earlier) (sym is) (omega arith)
 
 none_left : (rs : List ResourceRecord) (n : ℕ) → rs ≡ [] → length rs ≤ n
 none_left rs n is = subst (λ l. length l ≤ n) (sym is) (omega arith)

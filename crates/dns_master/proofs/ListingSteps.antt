@@ -1,14 +1,13 @@
 -- An entry as it is read, and as it is judged.
-use Rattle.dns_master.proofs.Common.{◌≡◌, ℕ, ◌-◌, Bool, true, false, cond, List, length, take, refl, sym, ap, ◌∙◌, subst, inl, inr, arith, Option, Some, None, list_any, Octets, DomainName, ResourceRecord, Entry, FileFault, bad_parenthesis, bad_data, bad_owner, bad_type, no_owner, no_ttl, other_class, too_many_records, directive_words, too_long, faulty, gives, EntryGives, kind_of, kind_by_words, is_blank, extent_by, nat_lt, whole_text, beginning, MatchOption, fault_of, ReadCode, Extent, stop_at, stop_fault, ◌==◌, ◌||◌}
+use Rattle.dns_master.proofs.Common.{◌≡◌, ℕ, ◌-◌, Bool, true, false, cond, List, length, take, refl, sym, ap, ◌∙◌, subst, inl, inr, arith, Option, Some, None, list_any, Octets, DomainName, ResourceRecord, Entry, FileFault, bad_parenthesis, bad_data, bad_owner, bad_type, no_owner, no_ttl, other_class, too_many_records, directive_words, too_long, gives, kind_of, kind_by_words, is_blank, extent_by, nat_lt, whole_text, beginning, MatchOption, fault_of, Extent, stop_at, stop_fault, ◌==◌, ◌||◌}
 use Rattle.std.specs.Bool.{⊤}
 use Rattle.dns_spec.specs.FileFaults.{bad_octet, bad_escape, unended_string, unknown_directive, bad_ttl, unreadable, no_memory}
 use Rattle.dns_spec.specs.ZoneText.{EntryStop, text_over, in_string, in_token, token_fault, string_fault, unless_cut_short, is_cut_short, begins_line_end, begins_with}
 use Rattle.dns_spec.specs.EntryPlaces.{PlacedEntry, Span, Ending, after_line, at_parenthesis, at_stop, ending_fault, end_octets, fault_place}
 use Rattle.dns_spec.specs.AllFaults.{HasFault, NumberIs, PlaceIs, place_after, FaultyWord}
 use Rattle.dns_master.specs.EntryForm.{shown_ending}
-use Rattle.dns_master.specs.PlaceForm.{shown_place}
 use Rattle.dns_master.specs.TakeForm.{Blamed, BlamedWord, KindOwn}
-use Rattle.dns_master.specs.ListingForm.{entry_read, placed, spot_by, shown_fault, IsScanned, EntryOwn}
+use Rattle.dns_master.specs.ListingForm.{entry_read, placed, spot_by, shown_fault, fault_in, IsScanned, EntryOwn}
 use Rattle.dns_master.specs.declared.earlier.Blame.{Blame}
 use Rattle.dns_master.specs.declared.scanned.EntryFault.{EntryFault}
 use Rattle.dns_master.specs.declared.scanned.ScannedEntry.{ScannedEntry}
@@ -109,53 +108,41 @@ module _ (s : ScannedEntry) (h : IsScanned s) where
 
   module _ (o : DomainName) (earlier : List Entry) where
     -- an entry with a lexical fault
-    pub stopped-fault : (f : EntryFault) (code : ReadCode) → f.code ≡ code → f.number ≡ None
-        → shown_place f.place ≡ fault_place (length s.octets.now) s.past.now (fault_of code)
-        (end_octets (shown_ending s.ending))
-        → f.entry ≡ length s.octets.now - length s.rest.now → fault-is ≡ Some (fault_of code)
+    pub stopped-fault : (f : EntryFault) (fault : FileFault) → fault-is ≡ Some fault
+        → shown_fault f ≡ fault_in s fault None
+        (fault_place (length s.octets.now) s.past.now fault (end_octets (shown_ending s.ending)))
         → HasFault o earlier (placed s) (shown_fault f)
-    stopped-fault f code p q r t is =
-        let stopped : Stopped o earlier (placed s) (shown_place f.place) (fault_of code) =
-        rw is at (of-ending (Stopped o earlier (placed s) (shown_place f.place)) (refl, λ e. e)
-        (refl, λ e. e) (refl, λ e. e) (refl, λ e. e) (refl, λ e. e) extent
-        (shown_ending s.ending)) in
-        let there = r ∙ ap (fault_place (length s.octets.now) s.past.now (fault_of code))
-        (ap end_octets (sym h.ending_is)) in
-        record {
-          given = subst (λ c. EntryGives o earlier (placed s).entry (faulty (fault_of c))) (sym p)
-              (lexical-given _ _ _ facts extent o earlier (fault_of code) (end_fault-is ∙ is));
-          number = subst (λ c. NumberIs o earlier (kind_of (placed s).entry) (fault_of c) f.number)
-              (sym p) (subst (λ n. NumberIs o earlier (kind_of (placed s).entry) (fault_of code) n)
-              (sym q) stopped.0);
-          place = subst (λ c. PlaceIs o earlier (placed s) (fault_of c) (shown_place f.place))
-              (sym p) (stopped.1 there);
-          entry = t;
-        }
+    stopped-fault f fault is same =
+        let place = fault_place (length s.octets.now) s.past.now fault
+        (end_octets (shown_ending s.ending)) in
+        let stopped : Stopped o earlier (placed s) place fault =
+        rw is at (of-ending (Stopped o earlier (placed s) place) (refl, λ e. e) (refl, λ e. e)
+        (refl, λ e. e) (refl, λ e. e) (refl, λ e. e) extent (shown_ending s.ending)) in
+        subst (HasFault o earlier (placed s)) (sym same) (record {
+          given = lexical-given _ _ _ facts extent o earlier fault (end_fault-is ∙ is);
+          number = stopped.0;
+          place = stopped.1 (ap (fault_place (length s.octets.now) s.past.now fault)
+              (ap end_octets (sym h.ending_is)));
+          entry = refl;
+        })
 
     module _ (blank : Bool) (led : blank ≡ list_any is_blank (take 1 s.rest.now))
         (none : fault-is ≡ None) where
       -- an entry with another fault
-      pub blamed-fault : (f : EntryFault) (b : Blame) → f.code ≡ b.code → f.number ≡ b.number
-          → shown_place f.place ≡ spot_by (fault_of b.code) b.words s
-          → f.entry ≡ length s.octets.now - length s.rest.now
+      pub blamed-fault : (f : EntryFault) (b : Blame)
+          → shown_fault f ≡ fault_in s (fault_of b.code) b.number
+          (spot_by (fault_of b.code) b.words s)
           → Blamed o earlier (kind_by_words blank s.words.now) b
           → HasFault o earlier (placed s) (shown_fault f)
-      blamed-fault f b p q r t blamed' =
+      blamed-fault f b same blamed' =
           let blamed : Blamed o earlier (kind_of (placed s).entry) b =
           subst (λ x. Blamed o earlier x b) (sym (entry-kind blank led)) blamed' in
-          record {
-            given = subst (λ c. EntryGives o earlier (placed s).entry (faulty (fault_of c)))
-                (sym p) (kind-given _ _ _ facts extent o earlier _ (end_fault-is ∙ none)
-                blamed.given);
-            number = subst
-                (λ c. NumberIs o earlier (kind_of (placed s).entry) (fault_of c) f.number) (sym p)
-                (subst (λ n. NumberIs o earlier (kind_of (placed s).entry) (fault_of b.code) n)
-                (sym q) blamed.number);
-            place = subst (λ c. PlaceIs o earlier (placed s) (fault_of c) (shown_place f.place))
-                (sym p) (place-is o earlier s (fault_of b.code) b.words (shown_place f.place)
-                blamed.word r);
-            entry = t;
-          }
+          subst (HasFault o earlier (placed s)) (sym same) (record {
+            given = kind-given _ _ _ facts extent o earlier _ (end_fault-is ∙ none) blamed.given;
+            number = blamed.number;
+            place = place-is o earlier s (fault_of b.code) b.words _ blamed.word refl;
+            entry = refl;
+          })
 
       pub entry-own : (rs : List ResourceRecord)
           → KindOwn o earlier (kind_by_words blank s.words.now) rs

@@ -58,7 +58,8 @@ module _ (total : ℕ) where
       abbrev later : ℕ → List PlacedToken × Ending
       later k = read_entry k now (total - length others) others
 
-      here-is : (k : ℕ) → read_entry (suc k) b (total - length text) text ≡ after_token one (later k)
+      here-is : (k : ℕ)
+          → read_entry (suc k) b (total - length text) text ≡ after_token one (later k)
       here-is k =
           let passed : total - length text + (length text - length others) ≡ total - length others
           = omega (arith, short, front-shorter text p others front) in
@@ -69,7 +70,8 @@ module _ (total : ℕ) where
           }) (read_entry k c n others)) passed step.2
 
       spot-on : (k left : ℕ) → spot total left (read_entry (suc k) b (total - length text) text)
-          ≡ first_place (drop left (cons_option (word_place one) (filter_map word_place (later k).0)))
+          ≡ first_place
+          (drop left (cons_option (word_place one) (filter_map word_place (later k).0)))
           (empty_place (before_end total (later k).0 (later k).1))
       spot-on k left = ap (spot total left) (here-is k)
           ∙ ap (λ n. first_place (drop left (cons_option (word_place one)

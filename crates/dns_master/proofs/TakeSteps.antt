@@ -402,7 +402,8 @@ module _ (o : DomainName) (earlier : List Entry) (s : EntryKind) (code : FileFau
     (Owner : DomainName → Type 0) (m owner : DomainName) (is : Owner m) (low : owner ≡ folded m)
     (twice : folded owner ≡ owner)
     (gives_as : (given : EntryMeaning)
-    → RecordGives o earlier code Owner (fields (record_words s)) given → KindGives o earlier s given)
+    → RecordGives o earlier code Owner (fields (record_words s)) given
+    → KindGives o earlier s given)
   where
     pub kind-blamed : (b : Blame) (n : ℕ)
         → FieldsBlamed o earlier owner (fields (record_words s)) (fault_of b.code) b.number n
@@ -417,7 +418,8 @@ module _ (o : DomainName) (earlier : List Entry) (s : EntryKind) (code : FileFau
           word = told.1;
         }
 
-    pub kind-own : (rs : List ResourceRecord) → FieldsGive o earlier owner (fields (record_words s)) rs
+    pub kind-own : (rs : List ResourceRecord)
+        → FieldsGive o earlier owner (fields (record_words s)) rs
         → (NeverGives o earlier (fields (record_words s)) → Nothing (KindGives o earlier s))
         → (Nothing (OriginAfter o earlier s) → ⊥) → KindOwn o earlier s rs
     kind-own rs h never origin =

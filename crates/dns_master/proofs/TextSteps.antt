@@ -124,10 +124,10 @@ first-gives : (o : DomainName) (earlier : List Entry) (goes_on : Bool) (text : O
     → KindGives o earlier (kind_of (ended ps)) (gives rs)
     → OctetsMean o (ended ps ∷ earlier) (extent_by goes_on) (rest_in ending) later
     → OctetsMean o earlier (extent_by goes_on) text (after rs later)
-first-gives o earlier goes_on text ps (after_line rest) rs later well turns none given (es, are, m) = (
-  ended ps ∷ es,
-  ended_first (extent_by goes_on) text rest ps es well are,
-  (gives rs, rw turns given, (later, m, refl)),
+first-gives o earlier goes_on text ps (after_line rest) rs later well turns none given h = (
+  ended ps ∷ h.0,
+  ended_first (extent_by goes_on) text rest ps h.0 well h.1,
+  (gives rs, rw turns given, (later, h.2, refl)),
 )
 first-gives o earlier goes_on text ps (at_parenthesis place) rs later well turns none given h =
     absurd (none-some bad_parenthesis (sym none))
@@ -190,7 +190,8 @@ module _ (more : Octets) (past : Bool) (text : Octets) (ps : List Token) (rest :
     unfolding TextMeans
     entry-means rs later given h =
         let r = remains goes_on ending may whole well facts in
-        first-gives o earlier past (text ++ more) ps r.ending rs later r.well facts.turns r.none given
+        first-gives o earlier past (text ++ more) ps r.ending rs later r.well facts.turns r.none
+        given
         (subst (λ x. OctetsMean o (ended ps ∷ earlier) (extent_by past) x later)
         (sym r.rest_is) h)
 

@@ -1,5 +1,5 @@
 -- The faults of a text as the code lists them, and the reading of one entry.
-use Rattle.std.specs.Prelude.{◌≡◌, ℕ, ◌-◌, ◌≤◌, List, ◌∷◌, length, false}
+use Rattle.std.specs.Prelude.{◌≡◌, ℕ, ◌-◌, ◌≤◌, List, ◌∷◌, Option, length, false}
 use Rattle.dns_spec.specs.Names.{Octets, DomainName}
 use Rattle.dns_spec.specs.ZoneText.{Entry, entry_words}
 use Rattle.dns_spec.specs.Records.{ResourceRecord}
@@ -55,6 +55,11 @@ shown_fault f =
       place = shown_place f.place;
       entry = f.entry;
     }
+
+-- a fault of an entry that was read
+abbrev pub fault_in : ScannedEntry → FileFault → Option ℕ → places.Span → all.EntryFault
+fault_in s fault number place =
+    record { fault = fault; number = number; place = place; entry = (placed s).begins }
 
 -- an entry has no fault, and gives these records
 pub record EntryOwn (o : DomainName) (earlier : List Entry) (e : Entry)

@@ -85,7 +85,7 @@ pub(crate) enum Step {
     Onward(bool),
 }
 
-#[tactic(auto, using(crate::proofs::EntryFacts::opening_misplaced, crate::proofs::EntryFacts::closing_misplaced))]
+#[tactic(auto, using(crate::proofs::EntryFacts::misplaced_steps))]
 pub(crate) fn step_after(token: Token<'_>, is_open: bool) -> Step
     ensures { StepIs is_open (shown_token token.entry) result }
 {

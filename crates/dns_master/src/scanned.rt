@@ -1,11 +1,9 @@
 //! What an entry of a file gives, or its fault with its place (RFC 1035 section 5).
-ghost use Rattle.std.specs.Prelude.{◌≡◌, ◌-◌, ◌≤◌, length, None, IfOk};
-ghost use Rattle.dns_spec.specs.EntryPlaces.{end_octets, fault_place};
+ghost use Rattle.std.specs.Prelude.{◌≡◌, ◌-◌, ◌≤◌, length, IfOk};
 ghost use Rattle.dns_spec.specs.AllFaults.{place_after};
 ghost use Rattle.dns_master.specs.Codes.{fault_of};
-ghost use Rattle.dns_master.specs.EntryForm.{shown_ending};
 ghost use Rattle.dns_master.specs.PlaceForm.{shown_place};
-ghost use Rattle.dns_master.specs.ListingForm.{IsScanned, Judges, PassesEntry, placed, spot_by};
+ghost use Rattle.dns_master.specs.ListingForm.{IsScanned, Judges, PassesEntry, fault_in, placed, shown_fault, spot_by};
 
 use crate::earlier::{Blame, Earlier};
 use crate::entry::{Ending, Step, ending_fault, step_after, word_of};
@@ -63,7 +61,8 @@ impl ScannedEntry<'_, '_> {
     {
         let taken = earlier.take(begins_blank(self.rest), self.words, buffers);
         if let Some(code) = ending_fault(self.ending, !self.past.is_empty()) {
-            return Ok(Judged::Faulty(self.lexical_fault(code)));
+            let place = stop_place(self.octets, self.past, code, self.ending);
+            return Ok(Judged::Faulty(self.fault(code, None, place)));
         }
         match taken {
             Ok(is_record) => Ok(Judged::Gives(is_record)),
@@ -72,20 +71,16 @@ impl ScannedEntry<'_, '_> {
         }
     }
 
-    // The lexical fault of the entry, which has this code.
-    fn lexical_fault(&self, code: ReadCode) -> EntryFault
-        requires { length self.now.octets.now ≤ 16777216 }
-        ensures code { result.code ≡ code }
-        ensures number { result.number ≡ None }
-        ensures place { shown_place result.place ≡ fault_place (length self.now.octets.now)
-            self.now.past.now (fault_of code) (end_octets (shown_ending self.now.ending)) }
-        ensures entry { result.entry ≡ length self.now.octets.now - length self.now.rest.now }
+    // A fault of the entry.
+    fn fault(&self, code: ReadCode, number: Option<u8>, place: Span) -> EntryFault
+        ensures { shown_fault result ≡ fault_in self.now (fault_of code) number (shown_place place) }
     {
+        let entry = self.octets_before();
         EntryFault {
             code,
-            number: None,
-            place: stop_place(self.octets, self.past, code, self.ending),
-            entry: self.octets_before(),
+            number,
+            place,
+            entry,
         }
     }
 
@@ -99,22 +94,14 @@ impl ScannedEntry<'_, '_> {
     // The fault of the entry, from why it is faulty.
     fn fault_by(&self, blame: Blame) -> EntryFault
         requires short { length self.now.rest.now ≤ length self.now.octets.now }
-        ensures code { result.code ≡ blame.code }
-        ensures number { result.number ≡ blame.number }
-        ensures place { shown_place result.place
-            ≡ spot_by (fault_of blame.code) blame.words self.now }
-        ensures entry { result.entry ≡ length self.now.octets.now - length self.now.rest.now }
+        ensures { shown_fault result ≡ fault_in self.now (fault_of blame.code) blame.number
+            (spot_by (fault_of blame.code) blame.words self.now) }
     {
         let place = match blame.code {
             ReadCode::NoOwner | ReadCode::TooManyRecords => Span::empty(self.octets_before()),
             _ => self.place_after(blame.words),
         };
-        EntryFault {
-            code: blame.code,
-            number: blame.number,
-            place,
-            entry: self.octets_before(),
-        }
+        self.fault(blame.code, blame.number, place)
     }
 
     // The place of the word after `number` words; the end of the entry if it has no such word.

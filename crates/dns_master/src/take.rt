@@ -94,7 +94,7 @@ impl Earlier {
         self.take_record(1, others, buffers)
     }
 
-    // Takes a directive. Its first argument counts for later entries even if the directive is faulty.
+    // Takes a directive. Its first argument counts for later entries, even if there are others.
     fn take_directive(&mut self, name: &[u8], words: &[Word<'_>]) -> Result<(), Blame>
         ensures passed { Passes self.old
             (directive (text_in_lower_case name.now) words.now) self.new }

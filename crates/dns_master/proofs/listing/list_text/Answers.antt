@@ -38,7 +38,8 @@ entries-preserved g c =
     let found = c.in_ok-ending.ensures in
     let bound = found.bound in
     let shorter = c.in-Some.ensures.short in
-    let is = found.reads (length c.split_at.result.0.now - length text) (length text) (omega arith) in
+    let is = found.reads (length c.split_at.result.0.now - length text) (length text)
+    (omega arith) in
     let within = c.entries.invariant.short in
     record {
       listed = entries-left _ _ _ _ _ _ _ (left - 1) text (Some c.in-Some.after.now)
@@ -50,7 +51,8 @@ pub returns-in-None : goal.returns-in-None
 returns-in-None g c =
     let left = c.entries.left in
     let text = c.entries.rest.now in
-    let is = c.in_ok-ending.ensures.reads (length c.split_at.result.0.now - length text) (length text)
+    let found = c.in_ok-ending.ensures in
+    let is = found.reads (length c.split_at.result.0.now - length text) (length text)
     (omega arith) in
     let on : c.in_ok-take.field-0 ≡ true = search rules in
     let so = rw on at (c.in_ok-take.ensures _ _ _ _ _

@@ -18,8 +18,8 @@ returns-then-not-is_origin-clause-valid c = λ o earlier known.
 
 pub returns-clause-passed : goal.returns-clause-passed
 returns-clause-passed c = λ others o earlier e known is.
-    origin-passed o earlier e c.args.self.now known _ c.args.argument.now others _ c.read_text.result
-    (is ∙ ap (λ b. directive (directive_name b) (c.args.argument.now ∷ others))
+    origin-passed o earlier e c.args.self.now known _ c.args.argument.now others _
+    c.read_text.result (is ∙ ap (λ b. directive (directive_name b) (c.args.argument.now ∷ others))
     c.if-not-is_origin.false)
     (ap (λ (w : Word). w.raw) c.argument.view_is) c.read_text.ensures.name c.in-Ok.is
     refl refl refl refl

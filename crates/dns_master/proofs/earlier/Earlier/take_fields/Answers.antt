@@ -55,9 +55,10 @@ pub returns-then-is_other_class-clause-err : goal.returns-then-is_other_class-cl
 returns-then-is_other_class-clause-err c = λ some o earlier owner known.
     let at = goal.at.returns-then-is_other_class-clause-err c in
     let fault = c.of-then-is_other_class in
-    fields-by o earlier _ _ _ fault.result OtherClass None _ (c.fields.view_is ∙ c.of-fields.ensures)
-    fault.ensures.code fault.ensures.number
-    (class-blamed o earlier _ _ (valid at.After-is_other_class o earlier owner known) (search rules))
+    fields-by o earlier _ _ _ fault.result OtherClass None _
+    (c.fields.view_is ∙ c.of-fields.ensures) fault.ensures.code fault.ensures.number
+    (class-blamed o earlier _ _ (valid at.After-is_other_class o earlier owner known)
+    (search rules))
     (refl, search rules)
 
 pub returns-in_default-type_and_words-clause-err : goal.returns-in_default-type_and_words-clause-err

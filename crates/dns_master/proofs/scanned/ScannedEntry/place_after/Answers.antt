@@ -57,7 +57,8 @@ tokens-preserved-else-left-eq0 c =
         c.tokens.invariant.short,
       );
       same = λ place h. c.tokens.invariant.same place
-          (subst (λ n. SpotIs (length c.args.self.now.octets.now) n c.tokens.is_open c.tokens.rest.now place) one
+          (subst (λ n. SpotIs (length c.args.self.now.octets.now) n c.tokens.is_open
+          c.tokens.rest.now place) one
           (spot-passed _ c.tokens.is_open c.tokens.rest.now c.in-Some.others.now _
           c.in-Some.ensures c.tokens.invariant.short c.in-Onward.now_open c.in-Onward.ensures
           (c.tokens.left - 1) place is h));

@@ -1,10 +1,9 @@
-use Rattle.dns_master.proofs.Common.{rules, arith, not, ◌≡◌, extent_by, nat_lt, length, ◌≢◌, sym, ap, ◌∙◌, fault_of, NoMemory}
+use Rattle.dns_master.proofs.Common.{None, rules, arith, not, ◌≡◌, extent_by, nat_lt, length, ◌≢◌, sym, ap, ◌∙◌, fault_of, NoMemory}
 use Rattle.std.specs.Option.{option_map}
 use Rattle.dns_spec.specs.EntryPlaces.{ending_fault}
 use Rattle.std.proofs.lemmas.Grind.{common_steps}
 use Rattle.dns_master.specs.EntryForm.{shown_ending}
-use Rattle.dns_master.specs.EarlierForm.{handed}
-use Rattle.dns_master.specs.ListingForm.{PassesEntry}
+use Rattle.dns_master.specs.ListingForm.{PassesEntry, fault_in}
 use Rattle.dns_master.proofs.ListingSteps.{stopped-fault, blamed-fault, entry-own, entry-kind}
 use Rattle.dns_master.proofs.scanned.ScannedEntry.take.Goals as goal
 use Rattle.dns_master.proofs.scanned.ScannedEntry.take.Goals.{After-take-taken, After-ending_fault}
@@ -39,27 +38,24 @@ returns-in-Err-2-clause-passed c =
 
 pub returns-in-Some-clause-taken : goal.returns-in-Some-clause-taken
 returns-in-Some-clause-taken c = λ o earlier known.
-    stopped-fault c.args.self.now c.requires.scanned o earlier c.lexical_fault.result c.in-Some.code
-    c.lexical_fault.ensures.code c.lexical_fault.ensures.number c.lexical_fault.ensures.place
-    c.lexical_fault.ensures.entry (sym (fault_is (goal.at.returns-in-Some-clause-taken c).After-ending_fault)
-    ∙ ap (option_map fault_of)
-    c.in-Some.is)
+    let at = (goal.at.returns-in-Some-clause-taken c).After-ending_fault in
+    stopped-fault c.args.self.now c.requires.scanned o earlier c.fault.result
+    (fault_of c.in-Some.code) (sym (fault_is at) ∙ ap (option_map fault_of) c.in-Some.is)
+    (c.fault.ensures ∙ ap (fault_in c.args.self.now (fault_of c.in-Some.code) None)
+    c.stop_place-place.ensures)
 
 pub returns-in-Ok-clause-taken : goal.returns-in-Ok-clause-taken
 returns-in-Ok-clause-taken c = λ o earlier known.
-    let rs = handed c.in-Ok.is_record c.take-taken.new.self.last in
+    let at = (goal.at.returns-in-Ok-clause-taken c).After-ending_fault in
     entry-own c.args.self.now c.requires.scanned o earlier c.begins_blank.result
-    c.begins_blank.ensures (sym (fault_is (goal.at.returns-in-Ok-clause-taken c).After-ending_fault)
-    ∙ ap (option_map fault_of) c.in_default.is)
-    rs
+    c.begins_blank.ensures (sym (fault_is at) ∙ ap (option_map fault_of) c.in_default.is) _
     (c.in-Ok.ensures.ok o earlier known)
 
 pub returns-in-Err-2-clause-taken : goal.returns-in-Err-2-clause-taken
 returns-in-Err-2-clause-taken c = λ o earlier known.
+    let at = (goal.at.returns-in-Err-2-clause-taken c).After-ending_fault in
     let some : c.in-Err-2.blame.code ≢ NoMemory = search rules in
     blamed-fault c.args.self.now c.requires.scanned o earlier c.begins_blank.result
-    c.begins_blank.ensures (sym (fault_is (goal.at.returns-in-Err-2-clause-taken c).After-ending_fault)
-    ∙ ap (option_map fault_of) c.in_default.is)
-    c.fault_by.result c.in-Err-2.blame c.fault_by.ensures.code c.fault_by.ensures.number
-    c.fault_by.ensures.place c.fault_by.ensures.entry
+    c.begins_blank.ensures (sym (fault_is at) ∙ ap (option_map fault_of) c.in_default.is)
+    c.fault_by.result c.in-Err-2.blame c.fault_by.ensures
     (c.in-Err-2.ensures.err some o earlier known)
