@@ -38,7 +38,8 @@ module _ (o : DomainName) (earlier : List Entry) where
     default_is : SeenTtl (option_or (directive_word (codes "$ttl") s)
         (nearest (directive_word (codes "$ttl")) earlier)) k.default_ttl
     stated_is : SeenTtl (option_or (ttl_word s) (nearest ttl_word earlier)) k.stated_ttl
-    left_is : k.records_left ≡ cond (counts_as_record s) (100001 - length (filter is_record earlier) - 1)
+    left_is : k.records_left
+        ≡ cond (counts_as_record s) (100001 - length (filter is_record earlier) - 1)
         (100001 - length (filter is_record earlier))
 
   after-entry : (e : Entry) (k : Earlier) → After (kind_of e) k → Passed o earlier e k
@@ -139,7 +140,8 @@ module _ (o : DomainName) (earlier : List Entry) where
         (r : Result DomainName E) → kind_of e ≡ directive (codes "$origin") (w ∷ ws)
         → raw ≡ w.raw → ((n : DomainName) → (r ≡ Ok n) ↔ SpellsName old.origin raw n)
         → r ≡ Ok new.origin → owner_of new ≡ owner_of old → new.default_ttl ≡ old.default_ttl
-        → new.stated_ttl ≡ old.stated_ttl → new.records_left ≡ old.records_left → Passed o earlier e new
+        → new.stated_ttl ≡ old.stated_ttl → new.records_left ≡ old.records_left
+        → Passed o earlier e new
     origin-passed new w ws raw r is same read found same_owner same_default same_stated same_room =
         passed e (directive (codes "$origin") (w ∷ ws)) new is (record {
           origin_is = (
@@ -163,7 +165,8 @@ module _ (o : DomainName) (earlier : List Entry) where
     pub default-passed : (new : Earlier) (w : Word) (ws : List Word)
         → kind_of e ≡ directive (codes "$ttl") (w ∷ ws)
         → SeenTtl (Some w) new.default_ttl → new.origin ≡ old.origin
-        → owner_of new ≡ owner_of old → new.stated_ttl ≡ old.stated_ttl → new.records_left ≡ old.records_left
+        → owner_of new ≡ owner_of old → new.stated_ttl ≡ old.stated_ttl
+        → new.records_left ≡ old.records_left
         → Passed o earlier e new
     default-passed new w ws is seen same_origin same_owner same_stated same_room =
         passed e (directive (codes "$ttl") (w ∷ ws)) new is (record {

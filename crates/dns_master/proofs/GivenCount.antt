@@ -111,7 +111,8 @@ none_left : (rs : List ResourceRecord) (n : ℕ) → rs ≡ [] → length rs ≤
 none_left rs n is = subst (λ l. length l ≤ n) (sym is) (omega arith)
 
 fits : (o : DomainName) (earlier : List Entry) (es : List PlacedEntry) (found : List EntryFault)
-    (rs : List ResourceRecord) → EntriesGive o earlier es found rs → length rs ≤ records_left earlier
+    (rs : List ResourceRecord) → EntriesGive o earlier es found rs
+    → length rs ≤ records_left earlier
 fits o earlier [] found rs h = none_left rs (records_left earlier) h.1
 fits o earlier (e ∷ es) found rs (inl (f, has, (more, is, tail))) =
     by_last (is_last f.fault) tail (λ now h. fits o now es more rs h)

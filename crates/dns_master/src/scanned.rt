@@ -73,7 +73,8 @@ impl ScannedEntry<'_, '_> {
 
     // A fault of the entry.
     fn fault(&self, code: ReadCode, number: Option<u8>, place: Span) -> EntryFault
-        ensures { shown_fault result ≡ fault_in self.now (fault_of code) number (shown_place place) }
+        ensures { shown_fault result
+            ≡ fault_in self.now (fault_of code) number (shown_place place) }
     {
         let entry = self.octets_before();
         EntryFault {

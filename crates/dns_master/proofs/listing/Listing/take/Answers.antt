@@ -18,7 +18,7 @@ returns-in_ok-add-in-Faulty g c = λ o octets past es before so.
     let k = c.args.self.now.earlier in
     let judged = subst (Judges k (placed c.args.entry.now) c.take.new.earlier.last) c.in-Faulty.is
     c.in_ok-is_record.ensures.taken in
-    fault-listed o octets past k c.take.new.earlier _ es _ _ before _ (shown_fault c.in-Faulty.fault)
-    so c.ends_list.result (judged o so.earlier so.known) (sym c.ends_list.ensures)
+    fault-listed o octets past k c.take.new.earlier _ es _ _ before _
+    (shown_fault c.in-Faulty.fault) so c.ends_list.result (judged o so.earlier so.known) (sym c.ends_list.ensures)
     (c.take.ensures.passed c.requires o so.earlier so.known)
     (c.in_ok-add-in-Faulty.ensures so.found so.listed)
