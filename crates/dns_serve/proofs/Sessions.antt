@@ -1,6 +1,5 @@
 -- What a session has done, message by message.
-use Rattle.dns_spec.proofs.Common.{◌≡◌, ℕ, Bool, true, false, zero, suc, ◌+◌, ◌-◌, ◌^◌, ◌<◌, ◌≤◌, ◌⊎◌, inl, inr, All, List, [], ◌∷◌, ◌++◌, length, take, drop, drop-take, Option, Some, None, Ok, Err, refl, sym, ap, ◌∙◌, subst, take_all, arith, append_assoc, append-nil, length-append, flat_map, flat_map-append, Appends, Consumes, IsAtEnd, Appends-trans, Consumes-trans, Octets, ZoneContents, All-append, frame, frames, first_frame, replies}
-use Rattle.std.proofs.Math.Seq.{take-nil}
+use Rattle.dns_spec.proofs.Common.{◌≡◌, ℕ, zero, suc, ◌+◌, ◌-◌, ◌^◌, ◌<◌, ◌≤◌, ◌⊎◌, inl, inr, All, List, [], ◌∷◌, ◌++◌, length, take, drop, drop-take, Option, Some, None, Err, refl, sym, ap, ◌∙◌, subst, arith, append_assoc, append-nil, length-append, flat_map, flat_map-append, Appends, Consumes, IsAtEnd, Appends-trans, Consumes-trans, Octets, ZoneContents, All-append, frame, frames, first_frame, replies}
 use Rattle.dns_spec.specs.Query.{most_over_tcp}
 use Rattle.dns_spec.specs.Stream.{reply_frame}
 use Rattle.dns_spec.proofs.Streams.StreamFrames.{frames_again}
@@ -11,20 +10,13 @@ use Rattle.dns_serve.specs.Reads.{FrameRead, GivesMessage, GivesNothing}
 use Rattle.dns_serve.specs.Streams.{Session, AreFrames, HasServed, WasRefused, SessionOf, reply_over_tcp}
 use Rattle.dns_serve.specs.declared.turn_fault.StreamFault.{StreamFault}
 
--- One message was read, and a prefix of its reply was written.
-pub record HasBegun (reply : Octets → Option Octets) (s : Session) : Type 0 where
+-- One message was read, and `Written` holds for the frame of its reply.
+pub record HasRead (reply : Octets → Option Octets) (unread left : Option Octets)
+    (Written : Octets → Type 0) : Type 0 where
   pub message : Octets
   pub short : length message < 2 ^ 16
-  pub read : Consumes s.unread s.left (frame message)
-  pub taken : ℕ
-  pub written : Appends s.held s.holds (take taken (reply_frame (reply message)))
-
--- One message was read, and its reply was written.
-pub record HasAnswered (reply : Octets → Option Octets) (s : Session) : Type 0 where
-  pub message : Octets
-  pub short : length message < 2 ^ 16
-  pub read : Consumes s.unread s.left (frame message)
-  pub written : Appends s.held s.holds (reply_frame (reply message))
+  pub read : Consumes unread left (frame message)
+  pub written : Written (reply_frame (reply message))
 
 abbrev session : Option Octets → Option Octets → Option Octets → Option Octets → Session
 session a b c d = record { unread = a; left = b; held = c; holds = d }
@@ -39,38 +31,16 @@ pub reply_of_kept : (z : ZoneContents) (f : FrameState) (piece m : Octets) → H
 reply_of_kept z f piece m h is = ap (reply_over_tcp z) (is ∙ kept_of f m h)
     ∙ sym (first_octets_answer z m most_over_tcp)
 
-pub answered : (z : ZoneContents) (a b c d : Option Octets) (f : FrameState) (piece : Octets)
-    → GivesMessage a b f → piece ≡ drop 2 f.kept
-    → Appends c d (reply_frame (reply_over_tcp z piece))
-    → HasAnswered (reply_over_tcp z) (session a b c d)
-answered z a b c d f piece g is w = record {
+pub replied : (z : ZoneContents) (a b : Option Octets) (f : FrameState) (piece : Octets)
+    (Written : Octets → Type 0) → GivesMessage a b f → piece ≡ drop 2 f.kept
+    → Written (reply_frame (reply_over_tcp z piece)) → HasRead (reply_over_tcp z) a b Written
+replied z a b f piece Written g is w = record {
   message = g.message;
   short = g.short;
   read = g.consumed;
-  written = subst (λ r. Appends c d (reply_frame r))
+  written = subst (λ r. Written (reply_frame r))
       (reply_of_kept z f piece g.message g.has_come is) w;
 }
-
-pub begun : (z : ZoneContents) (a b c d : Option Octets) (f : FrameState) (piece : Octets)
-    → GivesMessage a b f → piece ≡ drop 2 f.kept
-    → AppendsBeginning c d (reply_frame (reply_over_tcp z piece))
-    → HasBegun (reply_over_tcp z) (session a b c d)
-begun z a b c d f piece g is (n, h, w) = record {
-  message = g.message;
-  short = g.short;
-  read = g.consumed;
-  taken = n;
-  written = subst (λ r. Appends c d (take n (reply_frame r)))
-      (reply_of_kept z f piece g.message g.has_come is) w;
-}
-
-pub message_read : (a b : Option Octets) (f : FrameState) (came : Bool)
-    → came ≡ true → FrameRead a b f (Ok came) → GivesMessage a b f
-message_read a b f came e r = subst (λ t. FrameRead a b f (Ok t)) e r
-
-pub nothing_read : (a b : Option Octets) (f : FrameState) (came : Bool)
-    → came ≡ false → FrameRead a b f (Ok came) → GivesNothing a b
-nothing_read a b f came e r = subst (λ t. FrameRead a b f (Ok t)) e r
 
 -- n messages were read, and their replies were written
 pub record Done (reply : Octets → Option Octets) (s : Session) (n : ℕ) : Type 0 where
@@ -98,7 +68,7 @@ pub all_short : (ms : List Octets) (m : Octets) → All (λ m. length m < 2 ^ 16
 all_short ms m p h = All-append (λ m. length m < 2 ^ 16) ms (m ∷ []) p (one_short m h)
 
 pub done_more : (reply : Octets → Option Octets) (a b c x y z : Option Octets) (n : ℕ) → Done reply
-    (session a b x y) n → HasAnswered reply (session b c y z) → Done reply (session a c x z) (n + 1)
+    (session a b x y) n → HasRead reply b c (Appends y z) → Done reply (session a c x z) (n + 1)
 done_more reply a b c x y z n d h = record {
   messages = d.messages ++ h.message ∷ [];
   short = all_short d.messages h.message d.short h.short;
@@ -166,11 +136,11 @@ unread reply most n a b c x y f fault h h1 h2 =
 -- the reply to the next message could not be written
 pub unwritten : (reply : Octets → Option Octets) (most n : ℕ) (a b c x y z : Option Octets)
     → Done reply (session a b x y) n
-    → n < most → HasBegun reply (session b c y z) → WasRefused reply most (session a c x z)
+    → n < most → HasRead reply b c (AppendsBeginning y z) → WasRefused reply most (session a c x z)
 unwritten reply most n a b c x y z d h b' = record {
   earlier = d.messages;
   message = b'.message;
-  taken = b'.taken;
+  taken = b'.written.0;
   are_frames = frames_of_known a c (length d.messages + 1)
       (d.messages ++ b'.message ∷ []) [] (all_short d.messages b'.message d.short b'.short)
       (with_nothing a c _ (subst (Consumes a c)
@@ -179,5 +149,5 @@ unwritten reply most n a b c x y z d h b' = record {
   within = omega (arith, d.count, h);
   read = subst (Consumes a c)
       (sym (frames_of d.messages b'.message)) (Consumes-trans a b c _ _ d.read b'.read);
-  written = Appends-trans x y z _ _ d.written b'.written;
+  written = Appends-trans x y z _ _ d.written b'.written.2;
 }

@@ -1,5 +1,5 @@
 -- What a session holds after it has taken octets.
-use Rattle.dns_spec.proofs.Common.{◌≡◌, ℕ, ◌+◌, ◌<◌, ◌≤◌, ◌⊎◌, [], ◌∷◌, ◌++◌, length, length-append, arith, take, drop, refl, sym, ap, ◌∙◌, subst, append_assoc, append-nil, flat_map, Octets, ZoneContents, frame, replies, take-append-drop}
+use Rattle.dns_spec.proofs.Common.{◌≡◌, ℕ, ◌+◌, ◌<◌, ◌≤◌, ◌⊎◌, [], ◌∷◌, ◌++◌, length, length-append, arith, take, drop, sym, ap, ◌∙◌, subst, append_assoc, append-nil, flat_map, Octets, ZoneContents, frame, replies, take-append-drop}
 use Rattle.dns_spec.specs.Stream.{reply_frame}
 use Rattle.dns_serve.specs.Framing.{FrameState, SessionState, HasCome, HasTaken, IsEndOf, TakesMore, missing_of}
 use Rattle.dns_serve.specs.Streams.{reply_over_tcp}

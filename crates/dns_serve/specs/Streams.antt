@@ -1,5 +1,5 @@
 -- What a session over a stream has read and written when it ends or fails.
-use Rattle.std.specs.Prelude.{⊤, ◌≡◌, ℕ, ◌+◌, ◌≤◌, ◌<◌, ◌^◌, ◌⊎◌, List, [], ◌∷◌, ◌++◌, length, take}
+use Rattle.std.specs.Prelude.{⊤, ◌≡◌, ℕ, ◌+◌, ◌≤◌, ◌<◌, ◌⊎◌, List, [], ◌∷◌, ◌++◌, length, take}
 use Rattle.std.specs.Prelude.{MatchOption, Option, Result, Ok, Err}
 use Rattle.std.specs.List.{flat_map}
 use Rattle.std.specs.Io.KnownBytes.{Appends, Consumes, IsAtEnd}
@@ -93,13 +93,9 @@ SessionOf reply most s (Err Cut) = WasCut reply most s
 -- The failure counts of the source and of the sink after a session: one more if and only if a call
 -- of that device failed.
 abbrev pub source_failures_after : {A : Type 0} → ℕ → Result A StreamFault → ℕ
-source_failures_after count (Ok a) = count
 source_failures_after count (Err SourceFailed) = count + 1
-source_failures_after count (Err SinkFailed) = count
-source_failures_after count (Err Cut) = count
+source_failures_after count result = count
 
 abbrev pub sink_failures_after : {A : Type 0} → ℕ → Result A StreamFault → ℕ
-sink_failures_after count (Ok a) = count
-sink_failures_after count (Err SourceFailed) = count
 sink_failures_after count (Err SinkFailed) = count + 1
-sink_failures_after count (Err Cut) = count
+sink_failures_after count result = count

@@ -2,7 +2,7 @@
 -- of a turn.
 use Rattle.std.specs.Prelude.{⊤, ◌≡◌, ℕ, ◌≤◌, List, [], ◌∷◌, ◌++◌, take}
 use Rattle.std.specs.Prelude.{Option, None, Some, Result, Ok, Err, Bool, true}
-use Rattle.std.specs.Option.{is_some}
+use Rattle.std.specs.Option.{is_some, option_to_list}
 use Rattle.dns_spec.specs.Names.{Octets}
 use Rattle.dns_spec.specs.Records.{ZoneContents}
 use Rattle.dns_spec.specs.Query.{most_over_udp}
@@ -43,10 +43,6 @@ Sends old new (Err e) reply = ⊤
 abbrev pub reply_over_udp : ZoneContents → Octets → Option Octets
 reply_over_udp z d = octets_of z d most_over_udp
 
-abbrev pub one_or_none : Option Octets → List Octets
-one_or_none None = []
-one_or_none (Some r) = r ∷ []
-
 -- the datagrams that a device had received and sent, before and after a turn
 pub record Turn : Type 0 where
   pub had : Option (List Octets)
@@ -68,7 +64,7 @@ turn received sent device device_then = record {
 pub record IsTurn (z : ZoneContents) (t : Turn) (replied : Bool) : Type 0 where
   pub datagram : Octets
   pub received : Grows t.had t.has (datagram ∷ [])
-  pub answered : Grows t.sent t.has_sent (one_or_none (reply_over_udp z datagram))
+  pub answered : Grows t.sent t.has_sent (option_to_list (reply_over_udp z datagram))
   pub replied_is : replied ≡ is_some (reply_over_udp z datagram)
 
 -- one datagram was received that gets a reply, and sending the reply failed

@@ -9,6 +9,9 @@ use arrayvec::ArrayVec;
 use byteorder::{BigEndian, ByteOrder};
 use std::marker::Model;
 
+/// The octets of the longest frame: a length and 65,535 octets.
+pub(crate) const MOST_FRAME: usize = 65_537;
+
 // How many octets of a frame are kept: its length, and 512 octets of its message. No query needs
 // more: its question ends by octet 271.
 const MOST_KEPT: usize = 514;

@@ -5,7 +5,7 @@ ghost use Rattle.dns_spec.specs.Stream.{reply_frame};
 ghost use Rattle.dns_serve.specs.Framing.{HasTaken, IsEndOf, TakesMore, IsNew, missing_of};
 ghost use Rattle.dns_serve.specs.Streams.{reply_over_tcp};
 
-use crate::frame::Frame;
+use crate::frame::{Frame, MOST_FRAME};
 use byteorder::{BigEndian, ByteOrder};
 use dns_answer::{TcpBuilder, respond_in};
 use dns_zone::{Steps, Zone};
@@ -14,9 +14,6 @@ use std::marker::Model;
 
 // No message is answered while more octets of replies than this are held.
 const BATCH: usize = 16_384;
-
-// The longest reply, with its length in front.
-const MOST_FRAME: usize = 65_537;
 
 /// What a server holds of one stream: the frame that is arriving, and the replies that were not
 /// sent. Callers read the stream, write what `unsent` returns, and say so with `note_sent`.
@@ -134,8 +131,7 @@ fn put_reply(zone: &Zone, message: &[u8], builder: &mut TcpBuilder, replies: &mu
     ensures bound { vec_len replies.new ≤ vec_len replies.old + 65537 }
     ensures room { vec_capacity replies.old ≤ vec_capacity replies.new }
 {
-    let mut steps = Steps::new(zone);
-    let Some(reply) = respond_in(&mut steps, message, builder) else {
+    let Some(reply) = respond_in(&mut Steps::new(zone), message, builder) else {
         return;
     };
     let mut length = [0; 2];

@@ -6,16 +6,13 @@ ghost use Rattle.dns_name.specs.Counted.{Writes};
 ghost use Rattle.dns_serve.specs.Reads.{FrameRead};
 ghost use Rattle.dns_serve.specs.Streams.{SessionOf, session, reply_over_tcp, source_failures_after, sink_failures_after};
 
-use crate::frame::Frame;
+use crate::frame::{Frame, MOST_FRAME};
 use crate::turn_fault::StreamFault;
 use byteorder::{BigEndian, ByteOrder};
 use dns_answer::{TcpBuilder, respond_in};
 use dns_name::{SinkFailed, Tally};
 use dns_zone::{Steps, Zone};
 use std::io::{Read, Write};
-
-// The longest reply, with its length in front.
-const MOST_FRAME: usize = 65_537;
 
 /// Serves a stream: reads messages, each after its length in two octets, until it has read `most`
 /// messages or the source ends after a message, and returns how many messages it read. Writes each
@@ -101,8 +98,7 @@ fn write_reply<W: Write>(
     ensures { Writes W.contents sink.old sink.new result
         (reply_frame (reply_over_tcp zone.now message.now)) }
 {
-    let mut steps = Steps::new(zone);
-    let Some(reply) = respond_in(&mut steps, message, builder) else {
+    let Some(reply) = respond_in(&mut Steps::new(zone), message, builder) else {
         return Ok(());
     };
     let (length, rest) = buffer.split_at_mut(2);

@@ -46,9 +46,7 @@ pub fn udp_turn_in<D: Datagrams>(
     let Ok(count) = device.receive(buffer) else {
         return Err(TurnFault::ReceiveFailed);
     };
-    let (datagram, _) = buffer.split_at(count);
-    let mut steps = Steps::new(zone);
-    let Some(reply) = respond_in(&mut steps, datagram, builder) else {
+    let Some(reply) = respond_in(&mut Steps::new(zone), &buffer[..count], builder) else {
         return Ok(false);
     };
     match device.send(reply) {

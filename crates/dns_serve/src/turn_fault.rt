@@ -1,5 +1,6 @@
 //! Why a turn or a session ended early.
 ghost use Rattle.std.specs.Prelude.{◌≡◌};
+ghost use Rattle.dns_serve.specs.declared.turn_fault.StreamFault as faults;
 
 use dns_name::{SinkFailed, SourceFailed};
 use thiserror::Error;
@@ -32,9 +33,7 @@ pub enum StreamFault {
 }
 
 impl From<SourceFailed> for StreamFault {
-    ghost use Rattle.dns_serve.specs.declared.turn_fault.StreamFault.{StreamFault};
-
-    ghost from_gives = { λ _ fault. fault ≡ StreamFault.SourceFailed };
+    ghost from_gives = { λ _ fault. fault ≡ faults.StreamFault.SourceFailed };
 
     fn from(_failed: SourceFailed) -> StreamFault {
         StreamFault::SourceFailed
@@ -42,9 +41,7 @@ impl From<SourceFailed> for StreamFault {
 }
 
 impl From<SinkFailed> for StreamFault {
-    ghost use Rattle.dns_serve.specs.declared.turn_fault.StreamFault.{StreamFault};
-
-    ghost from_gives = { λ _ fault. fault ≡ StreamFault.SinkFailed };
+    ghost from_gives = { λ _ fault. fault ≡ faults.StreamFault.SinkFailed };
 
     fn from(_failed: SinkFailed) -> StreamFault {
         StreamFault::SinkFailed
