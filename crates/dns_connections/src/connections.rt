@@ -257,17 +257,17 @@ impl<'z, Z: Served, K: Sockets> Connections<'z, Z, K> {
 
     fn note_found(&mut self) {
         'found: for _ in 0..u64::MAX {
-            let Some(found) = self.sockets.next_found() else {
-                break;
-            };
-            match found {
-                Found::Connection => self.may_accept = true,
-                Found::End => self.left = 0,
-                Found::Peer {
-                    key,
-                    has_input,
-                    has_ended,
-                } => self.note_peer(key, has_input, has_ended),
+            match self.sockets.next_found() {
+                Some(Found::Connection) => self.may_accept = true,
+                Some(Found::End) => self.left = 0,
+                Some(
+                    Found::Peer {
+                        key,
+                        has_input,
+                        has_ended,
+                    },
+                ) => self.note_peer(key, has_input, has_ended),
+                None => break,
             }
         }
     }
@@ -323,15 +323,8 @@ impl<'z, Z: Served, K: Sockets> Connections<'z, Z, K> {
     // no memory for the connection or it can't be watched.
     fn accept(&mut self, now: Duration) -> Result<(), Stopped> {
         let stream = self.sockets.accept()?;
-        let most = self.plan.most;
-        if let Err(stream) = admit(
-            self.alloc,
-            &mut self.sockets,
-            &mut self.peers,
-            stream,
-            most,
-            now,
-        ) {
+        let (sockets, peers, most) = (&mut self.sockets, &mut self.peers, self.plan.most);
+        if let Err(stream) = admit(self.alloc, sockets, peers, stream, most, now) {
             self.sockets.close(self.zone, most, stream);
             return Err(Stopped::Failed);
         }

@@ -126,7 +126,8 @@ impl<Z: Served, S: Stream> Peer<Z, S> {
         let mut is_dry = false;
         if !self.has_pending() {
             match self.receive(buffer) {
-                Ok(0) => return self.end_of_input(),
+                Ok(0) if self.session.is_between_frames() => return Ok(Next::Ends),
+                Ok(0) => return Err(StreamFault::Cut),
                 // Then no more can be received before the socket is reported again.
                 Ok(count) => is_dry = count < PIECE && !self.has_ended,
                 Err(Stopped::WouldBlock) => return Ok(Next::Waits),
@@ -142,14 +143,6 @@ impl<Z: Served, S: Stream> Peer<Z, S> {
             return Ok(Next::Waits);
         }
         Ok(Next::GoesOn)
-    }
-
-    fn end_of_input(&self) -> Result<Next, StreamFault> {
-        if self.session.is_between_frames() {
-            Ok(Next::Ends)
-        } else {
-            Err(StreamFault::Cut)
-        }
     }
 
     fn has_pending(&self) -> bool
