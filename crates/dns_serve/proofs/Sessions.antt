@@ -1,5 +1,5 @@
 -- What a session has done, message by message.
-use Rattle.dns_spec.proofs.Common.{◌≡◌, ℕ, zero, suc, ◌+◌, ◌-◌, ◌^◌, ◌<◌, ◌≤◌, ◌⊎◌, inl, inr, All, List, [], ◌∷◌, ◌++◌, length, take, drop, drop-take, Option, Some, None, Err, refl, sym, ap, ◌∙◌, subst, arith, append_assoc, append-nil, length-append, flat_map, flat_map-append, Appends, Consumes, IsAtEnd, Appends-trans, Consumes-trans, Octets, ZoneContents, All-append, frame, frames, first_frame, replies}
+use Rattle.dns_spec.proofs.Common.{◌≡◌, ℕ, zero, suc, ◌+◌, ◌-◌, ◌^◌, ◌<◌, ◌≤◌, ◌⊎◌, inl, inr, All, List, [], ◌∷◌, ◌++◌, length, drop, drop-take, Option, Some, None, Err, refl, sym, ap, ◌∙◌, subst, arith, append_assoc, append-nil, length-append, flat_map, flat_map-append, Appends, Consumes, IsAtEnd, Appends-trans, Consumes-trans, Octets, ZoneContents, All-append, frame, frames, first_frame, replies}
 use Rattle.dns_spec.specs.Query.{most_over_tcp}
 use Rattle.dns_spec.specs.Stream.{reply_frame}
 use Rattle.dns_spec.proofs.Streams.StreamFrames.{frames_again}
@@ -21,14 +21,11 @@ pub record HasRead (reply : Octets → Option Octets) (unread left : Option Octe
 abbrev session : Option Octets → Option Octets → Option Octets → Option Octets → Session
 session a b c d = record { unread = a; left = b; held = c; holds = d }
 
--- the octets of a message that a frame keeps
-kept_of : (f : FrameState) (m : Octets) → HasCome f (frame m) → drop 2 f.kept ≡ take 512 m
-kept_of f m h = ap (drop 2) h.kept ∙ drop-take 2 512 (frame m)
-
 -- the reply to the kept octets of a message is the reply to the message
 pub reply_of_kept : (z : ZoneContents) (f : FrameState) (piece m : Octets) → HasCome f (frame m)
     → piece ≡ drop 2 f.kept → reply_over_tcp z piece ≡ reply_over_tcp z m
-reply_of_kept z f piece m h is = ap (reply_over_tcp z) (is ∙ kept_of f m h)
+reply_of_kept z f piece m h is =
+    ap (reply_over_tcp z) (is ∙ ap (drop 2) h.kept ∙ drop-take 2 512 (frame m))
     ∙ sym (first_octets_answer z m most_over_tcp)
 
 pub replied : (z : ZoneContents) (a b : Option Octets) (f : FrameState) (piece : Octets)
@@ -60,12 +57,9 @@ pub replies_of : (reply : Octets → Option Octets) (ms : List Octets) (m : Octe
 replies_of reply ms m = flat_map-append (λ m. reply_frame (reply m)) ms (m ∷ [])
     ∙ ap (λ x. replies reply ms ++ x) (append-nil (reply_frame (reply m)))
 
-one_short : (m : Octets) → length m < 2 ^ 16 → All (λ m. length m < 2 ^ 16) (m ∷ [])
-one_short m h = grind arith
-
 pub all_short : (ms : List Octets) (m : Octets) → All (λ m. length m < 2 ^ 16) ms
     → length m < 2 ^ 16 → All (λ m. length m < 2 ^ 16) (ms ++ m ∷ [])
-all_short ms m p h = All-append (λ m. length m < 2 ^ 16) ms (m ∷ []) p (one_short m h)
+all_short ms m p h = All-append (λ m. length m < 2 ^ 16) ms (m ∷ []) p (grind arith)
 
 pub done_more : (reply : Octets → Option Octets) (a b c x y z : Option Octets) (n : ℕ) → Done reply
     (session a b x y) n → HasRead reply b c (Appends y z) → Done reply (session a c x z) (n + 1)
@@ -79,18 +73,13 @@ done_more reply a b c x y z n d h = record {
       (sym (replies_of reply d.messages h.message)) (Appends-trans x y z _ _ d.written h.written);
 }
 
--- the frames at the front of octets, if no frame follows or no more are asked for
-frames_then : (k : ℕ) (ms : List Octets) (rest : Octets) → All (λ m. length m < 2 ^ 16) ms
-    → first_frame rest ≡ None → frames (length ms + k) (flat_map frame ms ++ rest) ≡ ms
+no_frames : (k : ℕ) (rest : Octets) → first_frame rest ≡ None → frames k rest ≡ []
 unfolding frames
-frames_then k ms rest short none =
-    frames_again k ms rest short ∙ ap (λ x. ms ++ x) (no_frames k) ∙ append-nil ms
-  where
-    no_frames : (k : ℕ) → frames k rest ≡ []
-    no_frames zero = refl
-    no_frames (suc k) =
-        ap (λ f. elim f as (λ _. List Octets) [ None ↦ [] | Some r ↦ r.0 ∷ frames k r.1 ]) none
+no_frames zero rest none = refl
+no_frames (suc k) rest none =
+    ap (λ f. elim f as (λ _. List Octets) [ None ↦ [] | Some r ↦ r.0 ∷ frames k r.1 ]) none
 
+-- the frames at the front of octets, if no frame follows or no more are asked for
 pub frames_by : (most : ℕ) (ms : List Octets) (rest : Octets) → All (λ m. length m < 2 ^ 16) ms
     → (length ms ≡ most) ⊎ (length ms ≤ most × (first_frame rest ≡ None))
     → ms ≡ frames most (flat_map frame ms ++ rest)
@@ -100,7 +89,8 @@ frames_by most ms rest short (inl e) =
     ∙ frames_again 0 ms rest short ∙ append-nil ms)
 frames_by most ms rest short (inr (le, none)) =
     sym (ap (λ k. frames k (flat_map frame ms ++ rest)) (omega (arith, le))
-    ∙ frames_then (most - length ms) ms rest short none)
+    ∙ frames_again (most - length ms) ms rest short
+    ∙ ap (λ x. ms ++ x) (no_frames (most - length ms) rest none) ∙ append-nil ms)
 
 -- the frames of a source, from the octets that were read and whether it is at its end
 frames_of_known : (a b : Option Octets) (most : ℕ) (ms : List Octets) (part : Octets) → All
@@ -137,17 +127,17 @@ unread reply most n a b c x y f fault h h1 h2 =
 pub unwritten : (reply : Octets → Option Octets) (most n : ℕ) (a b c x y z : Option Octets)
     → Done reply (session a b x y) n
     → n < most → HasRead reply b c (AppendsBeginning y z) → WasRefused reply most (session a c x z)
-unwritten reply most n a b c x y z d h b' = record {
-  earlier = d.messages;
-  message = b'.message;
-  taken = b'.written.0;
-  are_frames = frames_of_known a c (length d.messages + 1)
-      (d.messages ++ b'.message ∷ []) [] (all_short d.messages b'.message d.short b'.short)
-      (with_nothing a c _ (subst (Consumes a c)
-      (sym (frames_of d.messages b'.message)) (Consumes-trans a b c _ _ d.read b'.read)))
-      (inl (length-append d.messages (b'.message ∷ [])));
-  within = omega (arith, d.count, h);
-  read = subst (Consumes a c)
-      (sym (frames_of d.messages b'.message)) (Consumes-trans a b c _ _ d.read b'.read);
-  written = Appends-trans x y z _ _ d.written b'.written.2;
-}
+unwritten reply most n a b c x y z d h b' =
+    let ms = d.messages ++ b'.message ∷ [] in
+    let read : Consumes a c (flat_map frame ms) = subst (Consumes a c)
+    (sym (frames_of d.messages b'.message)) (Consumes-trans a b c _ _ d.read b'.read) in record {
+      earlier = d.messages;
+      message = b'.message;
+      taken = b'.written.0;
+      are_frames = frames_of_known a c (length d.messages + 1) ms []
+          (all_short d.messages b'.message d.short b'.short) (with_nothing a c _ read)
+          (inl (length-append d.messages (b'.message ∷ [])));
+      within = omega (arith, d.count, h);
+      read = read;
+      written = Appends-trans x y z _ _ d.written b'.written.2;
+    }
