@@ -27,19 +27,15 @@ DecidesReport known left o options report =
 abbrev pub WrittenAs : Report → Result Bool Stop → Option Octets → Option Octets → Type 0
 WrittenAs report (Ok passes) old new = (report.passes ≡ passes) × Appends old new report.output
 WrittenAs report (Err Sink) old new = AppendsBeginning old new report.output
-WrittenAs report (Err Memory) old new = ⊥
-WrittenAs report (Err Source) old new = ⊥
+WrittenAs report (Err stop) old new = ⊥
 
 -- What a run has written and returned: a report of which `Is` holds, or a prefix of such a report
 -- if the sink failed, or nothing if allocation or the source failed.
 abbrev pub ReportedAs : (Report → Type 0) → Result Bool Stop → Option Octets → Option Octets
     → Type 0
-ReportedAs Is (Ok passes) old new =
-    (report : Report) × Is report × WrittenAs report (Ok passes) old new
-ReportedAs Is (Err Sink) old new =
-    (report : Report) × Is report × WrittenAs report (Err Sink) old new
 ReportedAs Is (Err Memory) old new = new ≡ old
 ReportedAs Is (Err Source) old new = new ≡ old
+ReportedAs Is result old new = (report : Report) × Is report × WrittenAs report result old new
 
 -- What a check has written and returned: the report on the file, as the octets that were read
 -- decide it.

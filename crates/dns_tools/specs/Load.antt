@@ -14,7 +14,7 @@ use Rattle.dns_master.specs.declared.read_fault.ReadCode.TheVariants.{SourceFail
 use Rattle.dns_master.specs.declared.read_fault.ReadFault.{ReadFault}
 use Rattle.dns_master.specs.Codes.{fault_of}
 use Rattle.dns_zone.specs.FaultForm.{faults_in}
-use Rattle.dns_tools.specs.declared.stop.Stop.TheVariants.{Memory, Source, Sink}
+use Rattle.dns_tools.specs.declared.stop.Stop.TheVariants.{Memory, Source}
 use Rattle.dns_tools.specs.declared.load.Refusal.{Refusal}
 use Rattle.dns_tools.specs.declared.load.Refusal.TheVariants.{File, Zone}
 use Rattle.dns_tools.specs.declared.load.LoadFault.{LoadFault}
@@ -51,11 +51,8 @@ refusal_report (Zone found) = flat_map fault_report (faults_in found)
 
 -- the failure count of the source after a load: one more if and only if reading the source failed
 abbrev pub failures_after_load : {A : Type 0} → ℕ → Result A LoadFault → ℕ
-failures_after_load count (Ok zone) = count
-failures_after_load count (Err (Refused refusal)) = count
-failures_after_load count (Err (Stopped Memory)) = count
 failures_after_load count (Err (Stopped Source)) = count + 1
-failures_after_load count (Err (Stopped Sink)) = count
+failures_after_load count result = count
 
 -- What a call that loads a zone does to a counted source, whose octets `remaining` gives if they
 -- are known.

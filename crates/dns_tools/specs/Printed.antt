@@ -1,10 +1,10 @@
 -- What the printer of a message has read and written, by its result.
-use Rattle.std.specs.Prelude.{◌≡◌, ℕ, Bool, ◌++◌, codes, decimal, Result, Ok, Err}
+use Rattle.std.specs.Prelude.{◌≡◌, ℕ, Bool, ◌++◌, codes, decimal, Result, Err}
 use Rattle.dns_spec.specs.Names.{Octets}
 use Rattle.dns_spec.specs.MessageLines.{PrintsInput}
 use Rattle.dns_serve.specs.Streams.{Session}
 use Rattle.dns_tools.specs.declared.stop.Stop.{Stop}
-use Rattle.dns_tools.specs.declared.stop.Stop.TheVariants.{Memory, Source, Sink}
+use Rattle.dns_tools.specs.declared.stop.Stop.TheVariants.{Memory, Source}
 use Rattle.dns_tools.specs.Checked.{ReportedAs}
 use Rattle.dns_tools.specs.FirstLine.{HasReadFront, HasReadLine}
 
@@ -20,7 +20,6 @@ pub record HasPrinted (s : Session) (result : Result Bool Stop) : Type 0 where
   pub written : ReportedAs (PrintsInput input) result s.held s.holds
 
 abbrev pub PrintedAs : Session → Result Bool Stop → Type 0
-PrintedAs s (Ok passes) = HasPrinted s (Ok passes)
-PrintedAs s (Err Sink) = HasPrinted s (Err Sink)
 PrintedAs s (Err Source) = HasReadFront s.unread s.left × (s.holds ≡ s.held)
 PrintedAs s (Err Memory) = s.holds ≡ s.held
+PrintedAs s result = HasPrinted s result
