@@ -27,6 +27,13 @@ use dns_zone::{BuildFault, CheckFaults, Store};
 use std::alloc::Global;
 use std::io::{Read, Write};
 
+// The codes of the faults of a zone that a further record may remove: `Z01`, `Z04` and `Z10`.
+const NO_SOA: u8 = 1;
+
+const NO_NS: u8 = 4;
+
+const NO_ADDRESS: u8 = 10;
+
 /// Reading the octets of a file fails only if the source or an allocation fails.
 impl From<ReadFault> for Stop {
     ghost from_gives = { λ fault stop. stop ≡ stop_of_code fault.code };
@@ -133,12 +140,11 @@ fn listed(list: &FaultList, mut zone: CheckFaults) -> CheckFaults
     zone
 }
 
-// Whether no further record removes a fault with this code: whether it is neither a missing SOA
-// (`Z01`), nor missing NS records (`Z04`), nor a missing address (`Z10`).
+// Whether no further record removes a fault with this code.
 fn is_lasting(code: u8) -> bool
     ensures { result ≡ is_lasting code }
 {
-    !matches!(code, 1 | 4 | 10)
+    !matches!(code, NO_SOA | NO_NS | NO_ADDRESS)
 }
 
 fn write_entry_faults<W: Write>(
