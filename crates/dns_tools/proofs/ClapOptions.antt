@@ -1,17 +1,9 @@
 -- What `clap` makes of the options that the programs take.
-use Rattle.dns_tools.proofs.Common.{refl, sym, subst, ◌≡◌, ◌∙◌, ap, Bool, true, false, List, Octets, Some, inl, inr, codes}
-use Rattle.std.specs.Prelude.{if◌then◌else◌, reverse}
-use Rattle.dns_spec.specs.Report.{Options}
-use Rattle.dns_spec.specs.CommandWords.{AreOptions, option_words, Transport, udp, tcp}
-use Rattle.clap.specs.Walk.{Text, one_of}
-use Rattle.clap.specs.Simple.{App, HasMatchesOf, is_simple, matches_of}
-use Rattle.clap.specs.Takes.{takes}
+use Rattle.dns_tools.proofs.Common.{refl, sym, subst, ◌≡◌, ◌∙◌, ap, Bool, true, false, List, Octets, Some, inl, inr, codes, if◌then◌else◌, reverse, Options, AreOptions, option_words, Transport, udp, tcp, Text, one_of, App, HasMatchesOf, is_simple, matches_of, takes, limit_words, check_app, once_app}
 use Rattle.clap.specs.Matches.{found_of, one_text}
 use Rattle.clap.specs.declared.parser.matches.ArgMatches.{ArgMatches}
 use Rattle.clap.proofs.OnLiterals.{clap_on_literals}
 use Rattle.clap.proofs.WalkLemmas.{one_text-rows}
-use Rattle.dns_tools.specs.Arguments.{limit_words}
-use Rattle.dns_tools.specs.ClapCommands.{check_app, once_app}
 
 -- a flag is read from the text of its value
 pub flag_text : Bool → Octets

@@ -1,9 +1,6 @@
 -- The arguments of a command line: ORIGIN and FILE at its end, and those before them.
-use Rattle.dns_tools.proofs.Common.{arith, refl, ◌≡◌, ℕ, ◌<◌, ◌≤◌, List, [], ◌∷◌, ◌++◌, length, length-append, get_or, drop, ap, ap₂, sym, ◌∙◌, Octets, codes, decimal}
-use Rattle.std.specs.Prelude.{map}
+use Rattle.dns_tools.proofs.Common.{arith, refl, ◌≡◌, ℕ, ◌<◌, ◌≤◌, List, [], ◌∷◌, ◌++◌, length, length-append, get_or, drop, ap, ap₂, sym, ◌∙◌, Octets, codes, decimal, map, EndWords, ZoneWords, Transport, transport_word, udp, tcp, ServiceAsked, by_lines, by_turns, service_words, limit_words}
 use Rattle.std.proofs.lemmas.List.{append_assoc, map-append}
-use Rattle.dns_spec.specs.CommandWords.{EndWords, ZoneWords, Transport, transport_word, udp, tcp, ServiceAsked, by_lines, by_turns, service_words}
-use Rattle.dns_tools.specs.Arguments.{limit_words}
 
 -- the texts of all arguments, from those of the last two
 pub last_texts : {A : Type 0} (text : A → Octets) (ws others front : List A) (o f : A)

@@ -1,8 +1,7 @@
 -- What a run over lines has done when its input is read, or when a device has failed.
-use Rattle.dns_tools.proofs.Common.{◌≡◌, ◌≢◌, ℕ, ◌+◌, ◌-◌, ◌^◌, ◌<◌, ◌≤◌, Bool, ◌&&◌, ◌⊎◌, inl, inr, [], ◌∷◌, ◌++◌, length, take, Option, Some, None, Result, Ok, Err, IsErrAnd, refl, sym, ap, ◌∙◌, subst, arith, append_assoc, append-nil, length-append, is_some, take_all, take-append-le, take-append-add, Appends, Consumes, IsAtEnd, Keeps, Octets, Appends-nil, Appends-trans, Consumes-trans, Consumes-kept, lines, line_ends, ended_lines, message_answer, line_answers, are_messages, AppendsBeginning, beginning_of_second, Session, Kept, IsFresh, Progress, Begun, IsInput, LinesAnswered, HasAnsweredLines, HasAnsweredEnded, HasBegunAnswers, Grows, KeepsUp, hex_octets, kept_line, length-take, Stop}
+use Rattle.dns_tools.proofs.Common.{◌≡◌, ◌≢◌, ℕ, ◌+◌, ◌-◌, ◌^◌, ◌<◌, ◌≤◌, Bool, ◌&&◌, ◌⊎◌, inl, inr, [], ◌∷◌, ◌++◌, length, take, Option, Some, None, Result, Ok, Err, IsErrAnd, refl, sym, ap, ◌∙◌, subst, arith, append_assoc, append-nil, length-append, is_some, take_all, take-append-le, take-append-add, Appends, Consumes, IsAtEnd, Keeps, Octets, Appends-nil, Appends-trans, Consumes-trans, Consumes-kept, lines, line_ends, ended_lines, message_answer, line_answers, are_messages, AppendsBeginning, beginning_of_second, Session, Kept, IsFresh, Progress, Begun, IsInput, LinesAnswered, HasAnsweredLines, HasAnsweredEnded, HasBegunAnswers, Grows, KeepsUp, hex_octets, kept_line, length-take, Stop, nil_from_length}
 use Rattle.dns_tools.proofs.KeptLines.{line_alone, lines_nil}
 use Rattle.dns_tools.proofs.LineRuns.{one_answer, one_flag, progress_none}
-use Rattle.dns_spec.proofs.Common.{nil_from_length}
 
 -- All lines of an input were answered.
 pub record Answered (reply : Octets → Option Octets) (held holds : Option Octets) (x : Octets)

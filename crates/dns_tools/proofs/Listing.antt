@@ -1,14 +1,10 @@
 -- The list of faults is written as the definitions have it.
-use Rattle.dns_tools.proofs.Common.{◌≡◌, ℕ, ◌+◌, ◌<◌, ◌==◌, ◌&&◌, Bool, true, false, List, [], ◌∷◌, ◌++◌, length, take, drop, get_or, ne_eqb, refl, sym, ap, ◌∙◌, arith, codes, flat_map, filter, append_assoc, length-append, drop-cons, add-one, if◌then◌else◌, Octets, DomainName, folded, ResourceRecord, zone_of, Fault, Report, fault_report, two_digits, fault_code, faults, Option, Some, Counted, Appends-nil, Appends, AppendsBeginning, ZoneContents, Result, Ok, IsErrAnd, Stop, Sink, ReportedAs, GivesMeaning, IsRead, records, false≢true, subst}
-use Rattle.std.specs.Prelude.{map, cond}
+use Rattle.dns_tools.proofs.Common.{◌≡◌, ℕ, ◌+◌, ◌<◌, ◌==◌, ◌&&◌, Bool, true, false, List, [], ◌∷◌, ◌++◌, length, take, drop, get_or, ne_eqb, refl, sym, ap, ◌∙◌, arith, codes, flat_map, filter, append_assoc, length-append, drop-cons, add-one, if◌then◌else◌, Octets, DomainName, folded, ResourceRecord, zone_of, Fault, Report, fault_report, two_digits, fault_code, faults, Option, Some, Counted, Appends-nil, Appends, AppendsBeginning, ZoneContents, Result, Ok, IsErrAnd, Stop, Sink, ReportedAs, GivesMeaning, IsRead, records, false≢true, subst, map, cond, vec_len, length-map, AllFaults, EntryFault, ListsFaults, is_lasting, listing, entry_report, more_report, number_text, position_text, zone_faults, most_listed, ListedAs, list_report}
 use Rattle.std.proofs.lemmas.List.Folds.{flat_map-map}
-use Rattle.std.specs.Vec.{vec_len}
-use Rattle.dns_spec.proofs.Common.{length-map}
 use Rattle.dns_spec.specs.Meaning.{Means}
 use Rattle.dns_spec.proofs.ZoneTexts.NoFault.{no_fault}
 use Rattle.dns_tools.proofs.CheckedZone.{reported_as, report_begun}
 use Rattle.dns_tools.proofs.LineParts.{IsLeft}
-use Rattle.dns_spec.specs.AllFaults.{AllFaults, EntryFault, ListsFaults, is_lasting, listing, entry_report, more_report, number_text, position_text, zone_faults, most_listed}
 use Rattle.dns_master.specs.FaultListForm.{IsList, ListsText, ReadsOctets}
 use Rattle.dns_master.specs.ListingForm.{shown_fault}
 use Rattle.dns_master.specs.declared.scanned.EntryFault as code
@@ -16,7 +12,6 @@ use Rattle.dns_master.specs.declared.listing.FaultList.{FaultList}
 use Rattle.dns_zone.specs.FaultForm.{fault_of, faults_of, zone_in, faults_in}
 use Rattle.dns_zone.specs.declared.build_fault.CheckFault.{CheckFault}
 use Rattle.dns_zone.specs.declared.build_fault.CheckFaults.{CheckFaults}
-use Rattle.dns_tools.specs.Listed.{ListedAs, list_report}
 
 -- the line for a fault of a list
 abbrev pub fault_line : Octets → code.EntryFault → Octets

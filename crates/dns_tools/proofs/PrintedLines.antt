@@ -1,8 +1,7 @@
 -- What was printed for a message, a fault or a line is what a run must print.
-use Rattle.dns_tools.proofs.Common.{◌≡◌, ◌≢◌, ℕ, ◌≤◌, Bool, false, Option, Some, None, Result, Ok, Err, codes, refl, sym, subst, arith, inr, Octets, Report, IfErr, NoMessage, PrintsOctets, PrintsMessage, UnlessNoMemory, WireFault, Short, ReservedLabel, BadPointer, LongName, BadData, Trailing, NoMemory, Stop, Memory, Source, Sink, source_failures_after, sink_failures_after, ReportedAs, hex_octets, HasReadFront, ReadsFirst, PrintedAs}
+use Rattle.dns_tools.proofs.Common.{◌≡◌, ◌≢◌, ℕ, ◌≤◌, Bool, false, Option, Some, None, Result, Ok, Err, codes, refl, sym, subst, arith, inr, Octets, Report, IfErr, NoMessage, PrintsOctets, PrintsMessage, UnlessNoMemory, WireFault, Short, ReservedLabel, BadPointer, LongName, BadData, Trailing, NoMemory, Stop, Memory, Source, Sink, source_failures_after, sink_failures_after, ReportedAs, hex_octets, HasReadFront, ReadsFirst, PrintedAs, fault_line}
 use Rattle.dns_spec.specs.MessageFaults.{MessageFault}
 use Rattle.dns_wire.specs.WireFault.{fault_code}
-use Rattle.dns_tools.specs.Printed.{fault_line}
 use Rattle.dns_tools.proofs.CheckedZone.{reported_as}
 
 -- what is printed for octets that are not a message, by their fault

@@ -1,7 +1,4 @@
-use Rattle.dns_tools.proofs.Common.{rules, subst}
-use Rattle.dns_spec.specs.CommandWords.{AreOptions}
-use Rattle.std.specs.Prelude.{map}
-use Rattle.dns_tools.specs.Checked.{options_of}
+use Rattle.dns_tools.proofs.Common.{rules, subst, AreOptions, map, options_of}
 use Rattle.dns_tools.proofs.LastArguments.{same_front}
 use Rattle.dns_tools.proofs.arguments.check_words.Goals as goal
 

@@ -1,9 +1,4 @@
-use Rattle.dns_tools.proofs.Common.{arith, ap, ap₂, sym, subst, codes, ◌∙◌}
-use Rattle.std.specs.Prelude.{map}
-use Rattle.dns_spec.specs.Report.{Options}
-use Rattle.dns_spec.specs.CommandWords.{AreOptions}
-use Rattle.clap.specs.Takes.{takes}
-use Rattle.dns_tools.specs.ClapCommands.{check_app}
+use Rattle.dns_tools.proofs.Common.{arith, ap, ap₂, sym, subst, codes, ◌∙◌, map, Options, AreOptions, takes, check_app}
 use Rattle.dns_tools.proofs.ClapOptions.{check_read, check_simple, flag_is}
 use Rattle.dns_tools.proofs.arguments.given_flags.Goals as goal
 

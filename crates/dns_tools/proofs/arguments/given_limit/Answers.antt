@@ -1,10 +1,4 @@
-use Rattle.dns_tools.proofs.Common.{arith, ap, ap₂, true, codes, ◌∙◌}
-use Rattle.std.specs.Prelude.{map}
-use Rattle.dns_spec.specs.CommandWords.{udp, tcp}
-use Rattle.clap.specs.Walk.{one_of}
-use Rattle.clap.specs.Simple.{matches_of}
-use Rattle.clap.specs.Takes.{takes}
-use Rattle.dns_tools.specs.ClapCommands.{once_app}
+use Rattle.dns_tools.proofs.Common.{arith, ap, ap₂, true, codes, ◌∙◌, map, udp, tcp, one_of, matches_of, takes, once_app}
 use Rattle.dns_tools.proofs.ClapOptions.{once_taken, once_simple, once_set, flag_is}
 use Rattle.dns_tools.proofs.arguments.given_limit.Goals as goal
 use Rattle.dns_tools.proofs.arguments.given_limit.Goals.{else-get_flag-via-then-get_flag+else-are_words, else-get_flag-via-else-get_flag}

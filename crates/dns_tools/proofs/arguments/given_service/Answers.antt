@@ -1,5 +1,4 @@
-use Rattle.dns_tools.proofs.Common.{rules, ap, sym, ◌∙◌, ◌∷◌}
-use Rattle.std.specs.Prelude.{map}
+use Rattle.dns_tools.proofs.Common.{rules, ap, sym, ◌∙◌, ◌∷◌, map}
 use Rattle.std.proofs.lemmas.Slice.Eq.{bytes_eq-Decides}
 use Rattle.dns_tools.proofs.LastArguments.{after_once}
 use Rattle.dns_tools.proofs.arguments.given_service.Goals as goal

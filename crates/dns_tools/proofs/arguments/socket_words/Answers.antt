@@ -1,7 +1,4 @@
-use Rattle.dns_tools.proofs.Common.{rules, subst}
-use Rattle.dns_spec.specs.CommandWords.{EndWords}
-use Rattle.std.specs.Prelude.{map}
-use Rattle.dns_tools.specs.Arguments.{transport_of}
+use Rattle.dns_tools.proofs.Common.{rules, subst, EndWords, map, transport_of}
 use Rattle.dns_tools.proofs.LastArguments.{same_front}
 use Rattle.dns_tools.proofs.arguments.socket_words.Goals as goal
 

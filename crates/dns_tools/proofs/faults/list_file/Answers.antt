@@ -1,5 +1,4 @@
-use Rattle.std.specs.Vec.{vec_len}
-use Rattle.dns_tools.proofs.Common.{◌≡◌, ◌==◌, length, arith, ap, ◌∙◌, Appends-trans, beginning_of_first, beginning_of_second}
+use Rattle.dns_tools.proofs.Common.{◌≡◌, ◌==◌, length, arith, ap, ◌∙◌, Appends-trans, beginning_of_first, beginning_of_second, vec_len}
 use Rattle.dns_tools.proofs.Listing.{file_list, file_begun, file_listed, faults_count, first_empty, first_full}
 use Rattle.dns_tools.proofs.faults.list_file.Goals.{then-is_empty, else-is_empty}
 use Rattle.dns_tools.proofs.faults.list_file.Goals as goal

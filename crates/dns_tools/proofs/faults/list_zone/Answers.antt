@@ -1,8 +1,5 @@
-use Rattle.std.specs.Vec.{vec_len}
-use Rattle.dns_tools.proofs.Common.{ap, [], Ok, flat_map, fault_report, Writes-same}
-use Rattle.dns_spec.specs.AllFaults.{ListsFaults}
+use Rattle.dns_tools.proofs.Common.{ap, [], Ok, flat_map, fault_report, Writes-same, vec_len, ListsFaults, faults_in}
 use Rattle.dns_tools.proofs.CheckedZone.{reported, report_begun}
-use Rattle.dns_zone.specs.FaultForm.{faults_in}
 use Rattle.dns_tools.proofs.Listing.{report_for, is_list, zone_empty, faults_count}
 use Rattle.dns_tools.proofs.faults.list_zone.Goals as goal
 

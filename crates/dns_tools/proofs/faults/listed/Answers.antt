@@ -1,7 +1,4 @@
-use Rattle.std.specs.Vec.{vec_len}
-use Rattle.dns_tools.proofs.Common.{rules, ◌≡◌, ◌==◌, ◌∙◌, ap, sym, arith, filter, length, Fault}
-use Rattle.dns_spec.specs.AllFaults.{is_lasting}
-use Rattle.dns_zone.specs.FaultForm.{faults_of, zone_in}
+use Rattle.dns_tools.proofs.Common.{rules, ◌≡◌, ◌==◌, ◌∙◌, ap, sym, arith, filter, length, Fault, vec_len, is_lasting, faults_of, zone_in}
 use Rattle.dns_zone.specs.declared.build_fault.CheckFault.{CheckFault}
 use Rattle.dns_tools.proofs.Listing.{all_listed, lasting_listed, lasting_faults}
 use Rattle.std.proofs.lemmas.Fn.{filter_same}

@@ -1,7 +1,6 @@
-use Rattle.dns_tools.proofs.Common.{◌++◌, drop, flat_map}
+use Rattle.dns_tools.proofs.Common.{◌++◌, drop, flat_map, IsAt, list_report}
 use Rattle.dns_tools.proofs.LineParts.{IsLeft}
 use Rattle.dns_tools.proofs.Listing.{fault_line, more_line}
-use Rattle.dns_tools.specs.Listed.{IsAt, list_report}
 use Rattle.dns_tools.proofs.faults.write_entry_faults.Given as goal
 
 -- the lines of the remaining faults are still to be written

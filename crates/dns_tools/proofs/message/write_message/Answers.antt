@@ -1,6 +1,5 @@
-use Rattle.dns_tools.proofs.Common.{rules, [], ◌++◌, codes, refl, flat_map, append_assoc, Appends-nil, DnsMessage, Octets, Option, Counted, header_line, question_line, section_line, Writes-held, Writes-same}
+use Rattle.dns_tools.proofs.Common.{rules, [], ◌++◌, codes, refl, flat_map, append_assoc, Appends-nil, DnsMessage, Octets, Option, Counted, header_line, question_line, section_line, Writes-held, Writes-same, message_text}
 use Rattle.dns_tools.proofs.LineParts.{IsLeft, text_written, text_begun}
-use Rattle.dns_spec.specs.MessageLines.{message_text}
 use Rattle.dns_tools.proofs.message.write_message.Goals as goal
 
 -- the lines of each part of a message

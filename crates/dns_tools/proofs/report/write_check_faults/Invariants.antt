@@ -1,5 +1,4 @@
-use Rattle.dns_tools.proofs.Common.{drop, flat_map, fault_report}
-use Rattle.dns_zone.specs.FaultForm.{faults_in}
+use Rattle.dns_tools.proofs.Common.{drop, flat_map, fault_report, faults_in}
 use Rattle.dns_tools.proofs.LineParts.{IsLeft}
 use Rattle.dns_tools.proofs.Listing.{check_line}
 use Rattle.dns_tools.proofs.report.write_check_faults.Given as goal
