@@ -7,17 +7,14 @@
 
 mod work;
 
-use dns_tools::{FaultText, given_words, say};
+use dns_tools::{FaultText, end, given_words};
 use std::io;
 use std::process::ExitCode;
 use std::rt::{Env, Files};
 use work::octets_of_work;
 
 fn main(rt: HostRuntime) -> ExitCode {
-    ExitCode::from(match do_all(&rt) {
-        Ok(()) => 0,
-        Err(word) => say(&rt, word),
-    })
+    ExitCode::from(end(&rt, do_all(&rt).map(|()| 0)))
 }
 
 fn do_all<R: Env + Files + Input + Print + AllocGlobal>(rt: &R) -> Result<(), FaultText> {

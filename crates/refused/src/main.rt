@@ -12,7 +12,7 @@ mod samples;
 
 use calls::{answer_questions, answer_sessions, check, example, read_and_build};
 use dns_name::Tally;
-use dns_tools::{FaultText, LoadFault, given_words, load_zone, open_file, say};
+use dns_tools::{FaultText, LoadFault, end, given_words, load_zone, open_file};
 use dns_wire::read_message;
 use samples::MESSAGE;
 use std::io::{self, Write};
@@ -23,10 +23,7 @@ use std::rt::{Env, Files};
 const ROOM: usize = 65_536;
 
 fn main(rt: HostRuntime) -> ExitCode {
-    ExitCode::from(match call(&rt) {
-        Ok(()) => 0,
-        Err(word) => say(&rt, word),
-    })
+    ExitCode::from(end(&rt, call(&rt).map(|()| 0)))
 }
 
 // Makes the calls, and prints their results.
