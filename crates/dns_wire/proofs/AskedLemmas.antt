@@ -246,8 +246,7 @@ last_label {name} {rest} {after} {count} k last a longer = record {
   where
     next : (k : Octets) (m g t : DomainName) (l : Octets) → rest ≡ wire (k ∷ m)
         → k ∷ m ≡ g ++ l ∷ t → length (wire (l ∷ t)) ≡ count → (g' : DomainName) × (m ≡ g' ++ l ∷ t)
-    next k m [] t l spelled here long =
-        absurd (omega (arith, longer, long, ap length spelled, ap (λ x. length (wire x)) here))
+    next k m [] t l spelled here long = grind arith
     next k m (x ∷ g) t l spelled here long = (g, ap (λ (y : DomainName). drop 1 y) here)
 
 pub last_of : {name rest : Octets} {count : ℕ} → Last name rest count → IsLastOf name rest

@@ -32,17 +32,7 @@ module _ (es : List KeptOffset) (e : KeptOffset) where
       → AreChains heads es → e.offset < 16384 → e.next ≡ get_or heads (chain_of e.number) 0
       → AreChains (slice_set heads (chain_of e.number) (suc (length es))) (es ++ e ∷ [])
   chains_grow heads c reach next =
-      grind (
-        arith,
-        length-set,
-        set_head,
-        length-append,
-        mod_below,
-        last_before,
-        at_end,
-        leb-false,
-        same_before,
-      )
+      grind (arith, length-set, set_head, length-append, last_before, at_end, same_before)
 
   pub chains_shrink : (heads : List ℕ)
       → AreChains heads (es ++ e ∷ []) → AreChains (slice_set heads (chain_of e.number) e.next) es
@@ -93,8 +83,7 @@ module _ (P : KeptOffset → Type 0) (h : ℕ) (es : List KeptOffset) where
 
   pub chain_begins : (heads : List ℕ)
       → AreChains heads es → h < 128 → Chain P h es (get_or heads h 0)
-  chain_begins heads c low = subst (Chain P h es) (sym (c.newest h low)) (chain_at
-      (length es) (omega arith) (λ k inside past is p. absurd (omega (arith, inside, past))))
+  chain_begins heads c low = grind (arith, chain_at)
 
   pub chain_next : (heads : List ℕ) (k : ℕ) → AreChains heads es → Chain P h es (suc k)
       → (P (entry_at es k) → ⊥) → Chain P h es (entry_at es k).next × ((entry_at es k).next ≤ k)

@@ -41,8 +41,7 @@ runs_laid k (suc m) d long ms p =
 pub writes_runs : {head head' : Octets → ℕ} {d d' : PartialMessage} {fits : Bool} (k m : ℕ) (o : Octets)
     → length o ≡ m * k → Writes head head' d d' (octets_laid o) fits
     → Writes head head' d d' (all_laid (runs k m o)) fits
-writes_runs k m o long =
-    writes_as (octets_laid o) (all_laid (runs k m o)) (runs_laid k m o long)
+writes_runs k m o long = grind (arith, runs_laid)
 
 -- the ten octets after an owner
 abbrev pub numbers_of : ℕ → ℕ → ℕ → Octets
@@ -117,8 +116,7 @@ writes_short x ps is is_too w = writes_past (part_laid x) (all_laid (x ∷ ps)) 
 pub writes_parts : {head head' : Octets → ℕ}
     {d d' : PartialMessage} {fits : Bool} {ps : List Part} (t : ℕ) (o : Octets) → laid_parts t o ≡ ps
     → Writes head head' d d' (all_laid ps) fits → Writes head head' d d' (parts_laid t o) fits
-writes_parts {head} {head'} {d} {d'} {fits} t o is w =
-    subst (λ ps. Writes head head' d d' (all_laid ps) fits) (sym is) w
+writes_parts {head} {head'} {d} {d'} {fits} t o is w = grind arith
 
 -- After the data is written, its length is written into octets that are in no name.
 pub tail_written : {head head' : Octets → ℕ} {d d' d'' : PartialMessage} (t ttl : ℕ) (o b : Octets)

@@ -33,8 +33,7 @@ long_name_none b i e j n there past = grind (arith, lt-leb)
 pub field_read : (b : Octets) (p : Field) (i e : ℕ) (part : Part) (rest borrowed old now : Octets)
     → p ≢ domain → field_front p (take (e - i) (drop i b)) ≡ Some (part, rest)
     → part_octets part ≡ borrowed → now ≡ old ++ borrowed → IsFieldRead b p i e old now (e - length rest)
-field_read b p i e part rest borrowed old now other front lends appended =
-    grind (arith, field_own)
+field_read b p i e part rest borrowed old now other front lends appended = search arith
 
 pub end_fault_of_all : {b : Octets} {ps : List Field} {i e j : ℕ} {so_far : Octets}
     → AreFieldsRead b ps i e [] j so_far → FieldsFault b ps i e 5

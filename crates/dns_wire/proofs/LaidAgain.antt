@@ -26,8 +26,7 @@ same_form : (ms ms' : List Placed) (n : DomainName) → ((s : DomainName)
     → Suffix n s → shared_place ms' s ≡ shared_place ms s)
     → IsLaid ms' n (front_size ms n, pointed_offset ms n)
 unfolding front_size pointed_offset
-same_form ms ms' [] same =
-    (front-root ms' ∙ sym (front-root ms), pointed-root ms' ∙ sym (pointed-root ms))
+same_form ms ms' [] same = grind arith
 same_form ms ms' (l ∷ n) same =
     let own = same (l ∷ n) (record { front = []; whole = refl }) in
     let rest = same_form ms ms' n
@@ -39,11 +38,8 @@ pub laid_again : (ms more : List Placed) (n : DomainName) (p : ℕ) (form : Form
     → ((l : Octets) (t : DomainName) (q : ℕ) → place_of ms (l ∷ t) ≡ Some q → q < p)
     → IsLaid ms n form → IsLaid (ms ++ (n, p) ∷ more) n (form_again p form)
 unfolding front_size pointed_offset
-laid_again ms more [] p (zero, x) before laid =
-    let ms' = ms ++ ([], p) ∷ more in
-    (front-root ms', pointed-root ms' ∙ sym (pointed-root ms) ∙ laid.1)
-laid_again ms more [] p (suc k, x) before laid =
-    absurd (let z = sym laid.0 ∙ front-root ms in omega (arith, z))
+laid_again ms more [] p (zero, x) before laid = grind arith
+laid_again ms more [] p (suc k, x) before laid = absurd (omega arith)
 laid_again ms more (l ∷ t) p (zero, x) before laid =
     grind (arith, front_size, pointed_offset, shared_is, shared_to, place_left)
 laid_again ms more (l ∷ t) p (suc k, x) before laid = go (nat_le p last_place) refl
@@ -59,13 +55,7 @@ laid_again ms more (l ∷ t) p (suc k, x) before laid = go (nat_le p last_place)
 
     go : (b : Bool) → nat_le p last_place ≡ b
         → IsLaid ms' (l ∷ t) (cond b (zero, Some p) (suc k, x))
-    go true e =
-        let low = leb-true p last_place e in
-        let none = unplaced low in
-        let at : suffix_place (l ∷ t, p) (l ∷ t) ≡ p = omega arith in
-        let shared = shared_to ms' (l ∷ t) p
-        (place_added ms more (l ∷ t) p (l ∷ t) own none ∙ ap Some at) (omega (arith, low)) in
-        (front-as ms' l t shared, pointed-as ms' l t shared)
+    go true e = grind (arith, place_added)
     go false e =
         let high = leb-false p last_place e in
         let same = same_form ms ms' (l ∷ t)
@@ -94,21 +84,18 @@ laid_there {ms = ms} {b} {ks} n p holds e ok shared =
 -- the octets of a name that is laid out in this form
 pub laid_cut : (ms : List Placed) (n : DomainName) (form : Form)
     → IsLaid ms n form → shared_octets ms n ≡ take form.0 (wire n) ++ end_octets form.1
-laid_cut ms n form laid = shared_cut ms n
-    ∙ ap₂ (λ k p. take k (wire n) ++ end_octets p) laid.0 laid.1
+laid_cut ms n form laid = grind (arith, shared_cut)
 
 pub form_low : (at : ℕ) (form : Form)
     → 0 < form.0 → at ≤ last_place → form_again at form ≡ (zero, Some at)
 form_low at (zero, x) some low = absurd (omega (arith, some))
-form_low at (suc k, x) some low =
-    ap (λ b. cond b (zero, Some at) (suc k, x)) (le-leb at last_place low)
+form_low at (suc k, x) some low = grind arith
 
 pub form_kept : (at : ℕ) (form : Form)
     → (form.0 ≤ 0) ⊎ (last_place < at) → form_again at form ≡ form
 form_kept at (zero, x) h = refl
 form_kept at (suc k, x) (inl none) = absurd (omega (arith, none))
-form_kept at (suc k, x) (inr high) =
-    ap (λ b. cond b (zero, Some at) (suc k, x)) (lt-leb at last_place high)
+form_kept at (suc k, x) (inr high) = grind arith
 
 -- a name that fits is written as the octets of its layout, and its offsets are kept
 pub name_put : {known : List Placed → Type 0} {head head' : Octets → ℕ} {d d' : PartialMessage}

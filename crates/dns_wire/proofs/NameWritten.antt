@@ -33,21 +33,12 @@ front_within ms (l ∷ n) = grind (arith, front_size, (front_within ms n), lengt
 -- the number of octets of a name's layout
 length-shared : (ms : List Placed) (n : DomainName) → length (shared_octets ms n)
     ≡ front_size ms n + length (end_octets (pointed_offset ms n))
-length-shared ms n =
-    let front = take (front_size ms n) (wire n) in
-    omega (
-      arith,
-      ap length (shared_cut ms n),
-      length-append front (end_octets (pointed_offset ms n)),
-      length-take-le (front_size ms n) (wire n) (front_within ms n),
-    )
+length-shared ms n = grind (arith, shared_cut, length-append, length-take-le, front_within)
 
 -- the layout of a name with a label has at least two octets
 at_least_two : (ms : List Placed) (l : Octets) (t : DomainName) (x : Option ℕ)
     → shared_place ms (l ∷ t) ≡ x → 2 ≤ length (shared_octets ms (l ∷ t))
-at_least_two ms l t None e =
-    let some = shared_some ms t in
-    omega (arith, some, ap length (shared_whole ms l t e), length-append l (shared_octets ms t))
+at_least_two ms l t None e = grind (arith, shared_some, shared_whole, length-append)
 at_least_two ms l t (Some p) e = omega (arith, ap length (shared_pointed ms l t p e))
 
 -- a name does not fit if the labels before one that is left to compare leave no room for two octets
@@ -95,8 +86,7 @@ pub kept_complete : (head : Octets → ℕ) (ms : List Placed) (n front : Domain
     → p < 16384 → IsKept (new_offsets head ms n i) p (head (wire (l ∷ t)))
 kept_complete head ms n [] l t i p e none short at low =
     grind (arith, kept-more, shared_none, slice_get)
-kept_complete head ms [] (x ∷ front) l t i p e none short at low =
-    absurd (let z = ap length e in omega (arith, z))
+kept_complete head ms [] (x ∷ front) l t i p e none short at low = grind arith
 kept_complete head ms (k ∷ n) (x ∷ front) l t i p e none short at low =
     let tail : n ≡ front ++ l ∷ t = ap (λ (y : DomainName). drop 1 y) e in
     let out = shared_none ms

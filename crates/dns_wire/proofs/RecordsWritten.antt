@@ -107,8 +107,7 @@ pub form_known : {t : Bool} (head head' : Octets → ℕ) (d d' : PartialMessage
     → ((i == 0) ≡ false → form' ≡ form)
     → t ≡ true → (ms : List Placed) → HasNames d head ms → IsLaid ms owner form'
 form_known head head' d d' owner form form' zero begins same known first others put ms holds =
-    subst (λ t. OnTrue t ((ms : List Placed) → HasNames d' head' ms → IsLaid ms owner form')) put
-    (first refl) ms (subst₂ (λ d h. HasNames d h ms) (sym (begins refl)) (sym same) holds)
+    grind arith
 form_known head head' d d' owner form form' (suc i) begins same known first others put ms holds =
     subst (IsLaid ms owner) (sym (others (ne_eqb (suc i) 0 (λ e. omega (arith, e))))) (known (omega arith) ms holds)
 

@@ -21,9 +21,7 @@ kept_with s within few asked header fit = grind arith
 pub kept_longer : {N size : ℕ} {d : PartialMessage} (o : Octets) → IsWellKept N size d
     → length d.octets + length o ≤ d.limit → IsWellKept N size (with_octets d o)
 kept_longer {d = d} o s fits =
-    let long = length-append d.octets o in
-    kept_with s (omega (arith, fits, long)) (omega (arith, s.few, long)) (is_asked_more
-    o s.asked refl refl) (omega (arith, s.header, long)) (omega (arith, s.counts_fit, long))
+    omega (arith, length-append d.octets o, is_asked_more o s.asked refl refl)
 
 pub grows_not : (d : PartialMessage) → Grows d d
 grows_not d = grind (arith, follows_none)

@@ -274,8 +274,7 @@ keep_past {head} {old} {ks} {offset = offset} k keep a past ms n e ok f =
 -- no offset is kept of a name that is only a pointer
 pub keep_none : (head : Octets → ℕ) (ms : List Placed) (n : DomainName) (at : ℕ) (ks : List Kept)
     → front_size ms n ≡ 0 → ks ≡ ks ++ new_offsets head ms n at
-keep_none head ms [] at ks none =
-    sym (append-nil ks) ∙ ap (λ x. ks ++ x) (sym (kept-root head ms at))
+keep_none head ms [] at ks none = grind (arith, append-nil, kept-root)
 keep_none head ms (l ∷ n) at ks none = grind (arith, append-nil, kept-shared)
 
 pub keep_end : {head : Octets → ℕ} {old ks : List Kept} {name rest : Octets} {front at offset : ℕ}

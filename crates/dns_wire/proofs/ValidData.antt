@@ -156,8 +156,7 @@ module _ (b : Octets) (e : ℕ) (within : e ≤ length b) where
     where
       go : (list_all is_run fs ≡ true) ⊎ (nat_le (most_of fs) 65535 ≡ true) → length d ≤ 65535
       go (inl runs) = omega (arith, read.run runs, fits)
-      go (inr low) =
-          let few = leb-true (most_of fs) 65535 low in omega (arith, few, read.few few)
+      go (inr low) = grind arith
 
 -- what holds for `other_type` and for each row of the table with the number t holds for the row of
 -- type t

@@ -7,8 +7,7 @@ pub labels-init : goal.labels-init
 labels-init c = read_nothing c.args.datagram.now
 
 pub returns-then-length-eq0-clause-some : goal.returns-then-length-eq0-clause-some
-returns-then-length-eq0-clause-some c =
-    ends_here _ _ c.labels.invariant c.labels-test.true c.if-length-eq0.true
+returns-then-length-eq0-clause-some c = grind (arith, ends_here)
 
 pub returns-then-length-gt-MOST_LABEL-clause-none :
     goal.returns-then-length-gt-MOST_LABEL-clause-none

@@ -3,6 +3,4 @@ use Rattle.dns_wire.proofs.suffix_number.number_of.Goals as goal
 
 pub returns-clause-value : goal.returns-clause-value
 unfolding suffix_number
-returns-clause-value g c =
-    ap₂ (λ n h. n * 1024 + length c.args.suffix.now % 256 * 4 + h) c.octets_number.ensures.value
-    (c.from-high.ensures ∙ ap (λ h. h / 256) c.hash_of.ensures.value)
+returns-clause-value g c = cc

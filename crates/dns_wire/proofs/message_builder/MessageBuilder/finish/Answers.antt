@@ -13,10 +13,7 @@ module _ (g : given.Over) (c : After-self-1 g) where
   headed = header_of c.args.head c.self.inside.counts ++ drop 12 before
 
   long : length headed ≡ length before
-  long =
-      let header = c.self.invariant.header in
-      let front = header_of c.args.head c.self.inside.counts in
-      omega (arith, length-append front (drop 12 before), length-drop 12 before, header)
+  long = omega (arith, length-drop 12 before)
 
   written : refill (length before) before c.put_header.new.out ≡ headed
   written =
