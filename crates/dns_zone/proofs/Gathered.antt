@@ -57,30 +57,32 @@ none_gathered old ps apart within = record {
   apart = λ k m l k_in g m_in e. apart k m no_sort_key k_in m_in e;
 }
 
-module _ (old now : List ResourceRecord) (first ps : List SortKey) (to : ℕ)
-    (h : IsGathered old now first ps to) (inside : to < length first) where
-  pub first_at : IsAt old now to (at_of first to) (h.end (at_of first to))
+module _ (old now : List ResourceRecord) (first ps : List SortKey) (to from : ℕ)
+    (h : IsGathered old now first ps to) (inside : to < length first) (f : Follows ps to from) where
+  first_at : IsAt old now to (at_of first to) (h.end (at_of first to))
   first_at = h.others to (omega arith) inside
 
-  pub leads : (from : ℕ) → Follows ps to from → h.end from ≡ h.end (at_of first to)
-  leads from f = grind (arith, h.later to, first_at, f h.end h.ends)
+  leads : h.end from ≡ h.end (at_of first to)
+  leads = grind (arith, h.later to, first_at, f h.end h.ends)
 
-  pub follows_on : (from : ℕ) → Follows ps to from → from < to → from < at_of ps from
-  follows_on from f low = grind (arith, leads from f, first_at, h.ends.next from low)
+  pub follows_on : from < to → from < at_of ps from
+  follows_on low = grind (arith, leads, first_at, h.ends.next from)
 
-  pub there : (from : ℕ) → Follows ps to from → to ≤ from → h.end (at_of first to) ≡ from
-  there from f e = grind (arith, leads from f, h.ends.stop from e)
+  pub found : to ≤ from → IsAt old now to (at_of first to) from
+  found e = grind (arith, leads, first_at, h.ends.stop from)
 
 -- One more sort key: the record at `from` and the one at `to` are swapped, and the sort key has the index
 -- `from`.
 module _ (old now next : List ResourceRecord) (first ps next_ps : List SortKey) (to from : ℕ)
-    (h : IsGathered old now first ps to) (inside : to < length first)
-    (is : h.end (at_of first to) ≡ from)
-    (swapped : SwappedAt now next to from) (size : length next ≡ length now)
+    (h : IsGathered old now first ps to) (inside : to < length first) (f : Follows ps to from)
+    (ended : to ≤ from) (swapped : SwappedAt now next to from) (size : length next ≡ length now)
     (put : at_of next_ps to ≡ from) (count : length next_ps ≡ length ps)
     (others : (i : ℕ) → (i ≡ to → ⊥) → get_or next_ps i no_sort_key ≡ get_or ps i no_sort_key) where
   here : IsAt old now to (at_of first to) from
-  here = subst (IsAt old now to (at_of first to)) is (first_at old now first ps to h inside)
+  here = found old now first ps to from h inside f ended
+
+  is : h.end (at_of first to) ≡ from
+  is = grind (arith, leads old now first ps to from h inside f, h.ends.stop from)
 
   -- a search that ended at `to` ends at `from` now
   end : ℕ → ℕ
@@ -98,19 +100,13 @@ module _ (old now next : List ResourceRecord) (first ps next_ps : List SortKey) 
   same_at i n = ap (λ (p : SortKey). p.at) (others i n)
 
   stop : (i : ℕ) → to + 1 ≤ i → end i ≡ i
-  stop i l = let e = h.ends.stop i (omega arith) in kept i (omega arith) ∙ e
+  stop i l = grind (arith, h.ends.stop i, kept i)
 
   on : (i : ℕ) → i < to + 1 → to + 1 ≤ end i
       → (i < at_of next_ps i) × (end (at_of next_ps i) ≡ end i)
-  on i l m = go (either i to) (either (h.end i) to)
-    where
-      go : (i ≡ to) ⊎ (i ≡ to → ⊥) → (h.end i ≡ to) ⊎ (h.end i ≡ to → ⊥)
-          → (i < at_of next_ps i) × (end (at_of next_ps i) ≡ end i)
-      go (inl e) d = grind (arith, moved to, put, stop from, h.ends.stop to)
-      go (inr n) (inl e) =
-          grind (arith, h.ends.next i, same_at i n, moved i e, moved (at_of ps i))
-      go (inr n) (inr d) =
-          grind (arith, h.ends.next i, same_at i n, kept i d, kept (at_of ps i))
+  on i l m =
+      grind (arith, either i to, either (h.end i) to, h.ends.next i, h.ends.stop to, stop from, put,
+      same_at, moved, kept)
 
   at_now : (k : ℕ) → to + 1 ≤ k → k < length first
       → IsAt old next (to + 1) (at_of first k) (end (at_of first k))
@@ -120,9 +116,7 @@ module _ (old now next : List ResourceRecord) (first ps next_ps : List SortKey) 
       at = h.others k (omega (arith, l)) k_in
 
       not_from : h.end (at_of first k) ≡ from → ⊥
-      not_from e =
-          let same = h.apart k to (omega (arith, l)) k_in (omega arith) inside (e ∙ sym is) in
-          omega (arith, l, same)
+      not_from e = grind (arith, h.apart k to, is)
 
       go : (h.end (at_of first k) ≡ to) ⊎ (h.end (at_of first k) ≡ to → ⊥)
           → IsAt old next (to + 1) (at_of first k) (end (at_of first k))
@@ -151,12 +145,8 @@ module _ (old now next : List ResourceRecord) (first ps next_ps : List SortKey) 
     where
       done : (i : ℕ) (r : ResourceRecord) → i < to + 1 → (i ≡ to) ⊎ (i ≡ to → ⊥)
           → get_or next i r ≡ get_or old (at_of first i) r
-      done i r l (inl e) =
-          subst (λ x. get_or next x r ≡ get_or old (at_of first x) r) (sym e)
-          (swapped.0 r ∙ here.is r)
-      done i r l (inr n) =
-          let a = here.from in
-          swapped.2 i r n (λ e. omega (arith, e, a, n, l)) ∙ h.done i r (omega (arith, n, l))
+      done i r l (inl e) = grind (arith, swapped.0 r, here.is r)
+      done i r l (inr n) = grind (arith, swapped.2 i r n, h.done i r, here.from)
 
       apart : (k m : ℕ) → to + 1 ≤ k → k < length first → to + 1 ≤ m → m < length first
           → end (at_of first k) ≡ end (at_of first m) → k ≡ m
