@@ -83,46 +83,42 @@ module _ (o : Octets) where
   abbrev side : Octets → Ordering
   side a = slice_cmp nat_cmp (take (length o) a) o
 
-  -- the key a is less than the key b, and so are not greater its numbers
-  record IsBefore (a b : Octets) (f i g j : ℕ) : Type 0 where
-    pub less : slice_cmp nat_cmp a b ≡ Less
-    pub front : f ≤ g
-    pub next : i ≤ j
+  -- the order of keys, after their numbers
+  abbrev by_numbers : Octets → Octets → ℕ → ℕ → ℕ → ℕ → Ordering
+  by_numbers a b f i g j =
+      ordering_then (nat_cmp f g) (ordering_then (nat_cmp i j) (slice_cmp nat_cmp a b))
+
+  abbrev fronts_cmp : Octets → Octets → Ordering
+  fronts_cmp a b = slice_cmp nat_cmp (take (length o) a) (take (length o) b)
+
+  sides : (a b : Octets) → fronts_cmp a b ≡ Less → (side a ≡ Less) ⊎ (side b ≡ Greater)
+  sides a b l = go (side a) refl
+    where
+      turned : slice_cmp nat_cmp o (take (length o) b) ≡ Less → side b ≡ Greater
+      turned e = nat_list_cmp_total.antisymm (take (length o) b) o ∙ ap ordering_reverse e
+
+      go : (x : Ordering) → side a ≡ x → (side a ≡ Less) ⊎ (side b ≡ Greater)
+      go Less e = inl e
+      go Equal e =
+          inr (turned (sym (nat_list_cmp_total.congr (take (length o) a) o (take (length o) b) e) ∙ l))
+      go Greater e =
+          inr (turned (nat_list_cmp_total.trans o (take (length o) a) (take (length o) b)
+          (nat_list_cmp_total.antisymm o (take (length o) a) ∙ ap ordering_reverse e) l))
 
   module _ (a b : Octets) (f i g j : ℕ) (p : AreFronts o a f i) (q : AreFronts o b g j) where
-    less_equal : side a ≡ Less → side b ≡ Equal → IsBefore a b f i g j
-    less_equal h k = record {
-      less = prefix_less (length o) a b (alike_right nat_list_cmp_total (take (length o) b) o
-          (take (length o) a) k ∙ h);
-      front = omega (arith, (p.less h).0);
-      next = omega (arith, (p.less h).1);
-    }
-
-    back : side b ≡ Greater → slice_cmp nat_cmp o (take (length o) b) ≡ Less
-    back k = nat_list_cmp_total.antisymm o (take (length o) b) ∙ ap ordering_reverse k
-
-    less_greater : side a ≡ Less → side b ≡ Greater → IsBefore a b f i g j
-    less_greater h k = record {
-      less = prefix_less (length o) a b (nat_list_cmp_total.trans (take (length o) a) o
-          (take (length o) b) h (back k));
-      front = omega (arith, (p.less h).0);
-      next = omega (arith, (p.less h).1);
-    }
-
-    equal_greater : side a ≡ Equal → side b ≡ Greater → IsBefore a b f i g j
-    equal_greater h k =
-        let front = p.front_fits in
-        let next = p.next_fits in
-        record {
-          less = prefix_less (length o) a b (nat_list_cmp_total.congr (take (length o) a) o
-              (take (length o) b) h ∙ back k);
-          front = omega (arith, front, (q.greater k).0);
-          next = omega (arith, next, (q.greater k).1);
-        }
+    -- if the first octets of a are less, so is the key a, and its numbers are not greater
+    not_greater : fronts_cmp a b ≡ Less → (f ≤ g) × (i ≤ j)
+    not_greater l = go (sides a b l)
+      where
+        go : (side a ≡ Less) ⊎ (side b ≡ Greater) → (f ≤ g) × (i ≤ j)
+        go (inl h) = (omega (arith, (p.less h).0), omega (arith, (p.less h).1))
+        go (inr k) =
+            let front = p.front_fits in
+            let next = p.next_fits in
+            (omega (arith, front, (q.greater k).0), omega (arith, next, (q.greater k).1))
 
     both_equal : side a ≡ Equal → side b ≡ Equal
-        → ordering_then (nat_cmp f g) (ordering_then (nat_cmp i j) (slice_cmp nat_cmp a b))
-        ≡ slice_cmp nat_cmp a b
+        → by_numbers a b f i g j ≡ slice_cmp nat_cmp a b
     both_equal h k = go (either f g) (either i j)
       where
         tied_other : slice_cmp nat_cmp o (take (length o) b) ≡ Equal
@@ -133,8 +129,7 @@ module _ (o : Octets) where
             (take (length o) b) h ∙ tied_other)
 
         go : (f ≡ g) ⊎ (f ≡ g → ⊥) → (i ≡ j) ⊎ (i ≡ j → ⊥)
-            → ordering_then (nat_cmp f g) (ordering_then (nat_cmp i j) (slice_cmp nat_cmp a b))
-            ≡ slice_cmp nat_cmp a b
+            → by_numbers a b f i g j ≡ slice_cmp nat_cmp a b
         go (inr n) e =
             first_decides f g _ _ n (front_order (p.equal h).0 (q.equal k).0 n ∙ tied)
         go (inl e) (inl m) = alike f g i j (slice_cmp nat_cmp a b) e m
@@ -144,44 +139,33 @@ module _ (o : Octets) where
             (subst (λ x. IsEight x (drop (length o) b)) (sym e) (q.equal k).0)
             (p.equal h).1 (q.equal k).1 n ∙ tied)
 
-  less_first : (a b : Octets) (f i g j : ℕ) → IsBefore a b f i g j
-      → ordering_then (nat_cmp f g) (ordering_then (nat_cmp i j) (slice_cmp nat_cmp a b))
-      ≡ slice_cmp nat_cmp a b
-  less_first a b f i g j h =
-      ap (λ c. ordering_then (nat_cmp f g) (ordering_then (nat_cmp i j) c)) h.less
-      ∙ rising f g i j h.front h.next ∙ sym h.less
+    -- if the first octets of the keys are equal, so are the numbers, or they decide as the keys do
+    tied_fronts : fronts_cmp a b ≡ Equal → by_numbers a b f i g j ≡ slice_cmp nat_cmp a b
+    tied_fronts e = go (side a) refl
+      where
+        other : side a ≡ side b
+        other = nat_list_cmp_total.congr (take (length o) a) (take (length o) b) o e
 
-  less_last : (a b : Octets) (f i g j : ℕ) → IsBefore b a g j f i
-      → ordering_then (nat_cmp f g) (ordering_then (nat_cmp i j) (slice_cmp nat_cmp a b))
-      ≡ slice_cmp nat_cmp a b
-  less_last a b f i g j h =
-      let greater : slice_cmp nat_cmp a b ≡ Greater =
-      nat_list_cmp_total.antisymm a b ∙ ap ordering_reverse h.less in
-      ap (λ c. ordering_then (nat_cmp f g) (ordering_then (nat_cmp i j) c)) greater
-      ∙ falling f g i j h.front h.next ∙ sym greater
+        go : (x : Ordering) → side a ≡ x → by_numbers a b f i g j ≡ slice_cmp nat_cmp a b
+        go Less h = grind (arith, alike f g i j, p.less, q.less, other)
+        go Equal h = both_equal h (sym other ∙ h)
+        go Greater h = grind (arith, alike f g i j, p.greater, q.greater, other)
 
   -- the numbers of keys are in the order of the keys
   fronts_order : (a b : Octets) (f i g j : ℕ) → AreFronts o a f i → AreFronts o b g j
-      → ordering_then (nat_cmp f g) (ordering_then (nat_cmp i j) (slice_cmp nat_cmp a b))
-      ≡ slice_cmp nat_cmp a b
-  fronts_order a b f i g j p q = go (side a) (side b) refl refl
+      → by_numbers a b f i g j ≡ slice_cmp nat_cmp a b
+  fronts_order a b f i g j p q = go (fronts_cmp a b) refl
     where
-      go : (x y : Ordering) → side a ≡ x → side b ≡ y
-          → ordering_then (nat_cmp f g) (ordering_then (nat_cmp i j) (slice_cmp nat_cmp a b))
-          ≡ slice_cmp nat_cmp a b
-      go Less Less h k =
-          alike f g i j (slice_cmp nat_cmp a b) ((p.less h).0 ∙ sym (q.less k).0)
-          ((p.less h).1 ∙ sym (q.less k).1)
-      go Less Equal h k = less_first a b f i g j (less_equal a b f i g j p q h k)
-      go Less Greater h k = less_first a b f i g j (less_greater a b f i g j p q h k)
-      go Equal Less h k = less_last a b f i g j (less_equal b a g j f i q p k h)
-      go Equal Equal h k = both_equal a b f i g j p q h k
-      go Equal Greater h k = less_first a b f i g j (equal_greater a b f i g j p q h k)
-      go Greater Less h k = less_last a b f i g j (less_greater b a g j f i q p k h)
-      go Greater Equal h k = less_last a b f i g j (equal_greater b a g j f i q p k h)
-      go Greater Greater h k =
-          alike f g i j (slice_cmp nat_cmp a b) ((p.greater h).0 ∙ sym (q.greater k).0)
-          ((p.greater h).1 ∙ sym (q.greater k).1)
+      go : (x : Ordering) → fronts_cmp a b ≡ x → by_numbers a b f i g j ≡ slice_cmp nat_cmp a b
+      go Less e =
+          grind (arith, prefix_less (length o) a b, rising f g i j, not_greater a b f i g j p q e)
+      go Equal e = tied_fronts a b f i g j p q e
+      go Greater e =
+          let less : fronts_cmp b a ≡ Less =
+          nat_list_cmp_total.antisymm (take (length o) b) (take (length o) a)
+          ∙ ap ordering_reverse e in
+          grind (arith, prefix_less (length o) b a, nat_list_cmp_total.antisymm a b, falling f g i j,
+          not_greater b a g j f i q p less)
 
 -- sort keys are in the order of their records
 module _ (origin keys : Octets) (rs : List ResourceRecord) (first : ResourceRecord) where
