@@ -144,17 +144,12 @@ module _ (z : ZoneContents) where
       -- if the names are all checked names
       module _ (all : map (owner_of z) names ≡ checked_names z) where
         pub upto_some : Lower z.origin → at_or_below m z.origin ≡ true → 0 < k
-        upto_some low_origin under = go (cases_lt 0 k)
-          where
-            go : (0 < k) ⊎ (k ≤ 0) → 0 < k
-            go (inl l) = l
-            go (inr l) =
-                let zero_is : k ≡ 0 = omega arith in
-                let (c, b, e) =
-                mapped_among name z.origin names (subst (Among z.origin) (sym all)
-                (among_checked z z.origin (inl (sym low_origin)))) in
-                absurd (subst (λ j. Among c (take j names)) zero_is (upto_among c b
-                (ap (λ n. is_gt (name_order n m)) (sym e) ∙ under-order m z.origin under)))
+        upto_some low_origin under =
+            let (c, b, e) =
+            mapped_among name z.origin names (subst (Among z.origin) (sym all)
+            (among_checked z z.origin (inl (sym low_origin)))) in
+            let there = upto_among c b (ap (λ n. is_gt (name_order n m)) (sym e) ∙ under-order m z.origin under) in
+            grind (arith, cases_lt 0 k, there)
 
         found_last : (i : ℕ) → k ≡ suc i → (c : CheckedName) → c ≡ get_or names i c
             → IsLastUpto z m c
@@ -209,21 +204,10 @@ module _ (z : ZoneContents) where
       pub covered_cut : (key : Octets) → key ≡ name_key m → (c.key.now ≡ name_key m → ⊥)
           → is_covered c.cut c.key.now key ≡ at_or_below_cut z m
       covered_cut key e f =
-          ap₂ (λ (x y : Octets). nat_lt 0 c.cut && starts_with ◌==◌ x (take c.cut y))
-          e h.checked.key ∙ go
-          (covers z last m h.checked.owner.lower low c.cut h.checked.topmost h.upto cuts_upto)
-          refl
-        where
-          go : (b : Bool) → (nat_lt 0 c.cut && starts_with ◌==◌
-              (name_key m) (take c.cut (name_key last))) ≡ b → b ≡ at_or_below_cut z m
-          go true g =
-              sym (at_cut z m low c.cut
-              (covered z last m h.checked.owner.lower low
-              c.cut h.checked.topmost h.upto cuts_upto g) ∙ (and_parts (nat_lt 0 c.cut) _ g).0)
-          go false g =
-              sym (none_cut (is_cut z m) (no_cut (no_owner f))
-              (uncovered z last m h.checked.owner.lower low c.cut h.checked.topmost h.upto cuts_upto
-              g))
+          let parts = and_parts (nat_lt 0 c.cut) (starts_with ◌==◌ (name_key m) (take c.cut (name_key last))) in
+          grind (arith, e, h.checked.key, parts, at_cut z m low c.cut, none_cut (is_cut z m) (no_cut (no_owner f)),
+          covered z last m h.checked.owner.lower low c.cut h.checked.topmost h.upto cuts_upto,
+          uncovered z last m h.checked.owner.lower low c.cut h.checked.topmost h.upto cuts_upto)
 
       pub found_cut : last ≡ m → nat_lt 0 c.cut ≡ at_or_below_cut z m
       found_cut e = grind (arith, at_cut)

@@ -63,18 +63,10 @@ module _ (z : ZoneContents) (ordered : AreOrdered z.records) (ns ms : List Domai
     key_is = g;
     owner = i;
     upto = h.from.0;
-    cuts = λ c d is u.
-        go c u (among_either c ns (n ∷ ms) (subst (Among c) (sym all) (cut_among z c d is)));
+    cuts = λ c d is u. grind (arith, among_either c ns (n ∷ ms), all, cut_among z c d is,
+        each_at (λ m. is_gt (name_order m h.name) ≡ false) c ns h.upto,
+        each_at (λ m. name_order n m ≡ Less) c ms around.1, under-order n c u, name_order_total, true≢false);
   }
-    where
-      go : (c : DomainName) → at_or_below n c ≡ true
-          → Among c ns ⊎ ((c ≡ n) ⊎ Among c ms) → (c ≡ n) ⊎ (is_gt (name_order c h.name) ≡ false)
-      go c u (inl m) = inr (each_at (λ m. is_gt (name_order m h.name) ≡ false) c ns h.upto m)
-      go c u (inr (inl q)) = inl q
-      go c u (inr (inr m)) =
-          absurd (true≢false (sym (ap is_gt (name_order_total.antisymm c n
-          ∙ ap ordering_reverse (each_at (λ m. name_order n m ≡ Less) c ms around.1 m)))
-          ∙ under-order n c u))
 
   pub added_last : (key : Octets) (cut : ℕ) → key ≡ name_key n → IsTopmost z n cut
       → LastName z (ns ++ n ∷ []) ms key cut
@@ -197,25 +189,10 @@ module _ (z : ZoneContents) (low : folded z.origin ≡ z.origin) (ordered : AreO
         → (c.key.now ≡ key → ⊥)
         → AllByRecursion (λ d. name_order (owner_of z d) o ≡ Less) (take k names)
     others_before i next c is f =
+        let h = last_checked z names are.each rise o low key key_is k front i next c is in
+        let u = last_upto z names are.each rise o low key key_is k front i next c is in
+        let less : name_order (owner_of z c) o ≡ Less = grind (arith, h.key, h.owner.lower, low, u, f, key_is, lower_equal (owner_of z c) o, name_tie (owner_of z c) o, true≢false) in
         each_weaker (λ d. (d ≡ c) ⊎ (name_order (owner_of z d) (owner_of z c) ≡ Less))
-        (λ d. name_order (owner_of z d) o ≡ Less) (take k names) go
+        (λ d. name_order (owner_of z d) o ≡ Less) (take k names)
+        (λ d e. grind (arith, less, name_order_total.trans (owner_of z d) (owner_of z c) o))
         (in_order z names are.each rise o low key key_is k front i next c is)
-      where
-        less : name_order (owner_of z c) o ≡ Less
-        less =
-            let h = last_checked z names are.each rise o low key key_is k front i next c is in
-            let u = last_upto z names are.each rise o low key key_is k front i next c is in
-            by_order (name_order (owner_of z c) o) refl h u
-          where
-            by_order : (x : Ordering) → name_order (owner_of z c) o ≡ x → IsChecked z (owner_of z c) c
-                → is_gt (name_order (owner_of z c) o) ≡ false → x ≡ Less
-            by_order Less e h u = refl
-            by_order Equal e h u =
-                absurd (f (h.key ∙ ap name_key (lower_equal (owner_of z c) o h.owner.lower low
-                (name_tie (owner_of z c) o e)) ∙ sym key_is))
-            by_order Greater e h u = absurd (true≢false (sym (ap is_gt e) ∙ u))
-
-        go : (d : CheckedName) → (d ≡ c) ⊎ (name_order (owner_of z d) (owner_of z c) ≡ Less)
-            → name_order (owner_of z d) o ≡ Less
-        go d (inl e) = ap (λ x. name_order (owner_of z x) o) e ∙ less
-        go d (inr e) = name_order_total.trans (owner_of z d) (owner_of z c) o e less

@@ -21,18 +21,7 @@ module _ (z : ZoneContents) (i : ℕ) where
   failed_in_order : (k : ℕ) (cs : List (ℕ × Check)) → rise_by_one k cs ≡ true
       → faults_of z (failed_from i k (map fails cs)) ≡ map as_fault (filter fails cs)
   failed_in_order k [] h = refl
-  failed_in_order k (c ∷ cs) h =
-      let both = and_parts (c.0 == k) (rise_by_one (suc k) cs) h in
-      go (eqb-true c.0 k both.0) (fails c) (failed_in_order (suc k) cs both.1)
-    where
-      go : c.0 ≡ k → (b : Bool)
-          → faults_of z (failed_from i (suc k) (map fails cs)) ≡ map as_fault (filter fails cs)
-          → faults_of z ((if b then record { owner = i; code = k } ∷ [] else [])
-          ++ failed_from i (suc k) (map fails cs))
-          ≡ map as_fault (cond b (c ∷ filter fails cs) (filter fails cs))
-      go f true e =
-          ap₂ (λ (j : ℕ) fs. record { owner = numbered_owner z i; code = j } ∷ fs) (sym f) e
-      go f false e = e
+  failed_in_order k (c ∷ cs) h = grind (arith, eqb-true, and_parts, failed_in_order (suc k) cs)
 
   failed_reported : (n : DomainName) → numbered_owner z i ≡ n
       → faults_of z (failed_from i 1 (map (λ (c : ℕ × Check). c.1 z n) checks)) ≡ reported_at z n
@@ -74,13 +63,9 @@ greater_after r (q ∷ rs) h e = grind (arith, less_other, lower_order, each_wea
 pub once_rise : (rs : List ResourceRecord)
     → Pairs OwnerNotAfter rs → Rises name_order (owners_once rs)
 once_rise [] h = tt
-once_rise (r ∷ rs) h = go (begins_with_owner r.owner rs) refl (once_rise rs h.1)
-  where
-    go : (b : Bool) → begins_with_owner r.owner rs ≡ b → Rises name_order (owners_once rs)
-        → Rises name_order ((if b then [] else folded r.owner ∷ []) ++ owners_once rs)
-    go true e f = f
-    go false e f =
-        (each_once (λ n. name_order (folded r.owner) n ≡ Less) rs (greater_after r rs h e), f)
+once_rise (r ∷ rs) h =
+    grind (arith, once_rise rs h.1, greater_after r rs h,
+    each_once (λ n. name_order (folded r.owner) n ≡ Less) rs)
 
 -- the owners of records
 abbrev pub owners : List ResourceRecord → List DomainName
@@ -130,21 +115,14 @@ module _ (z : ZoneContents) where
 
   pub checked_among : (a : DomainName) → Among a (checked_names z) → IsName a
   checked_among a m =
-      go (distinct_among same a names (sort_among name_order a (distinct same names) m))
-    where
-      go : (a ≡ folded z.origin) ⊎ Among a (owners z.records) → IsName a
-      go (inl e) = inl e
-      go (inr k) = inr (among_once a z.records k)
+      grind (arith, among_once a z.records, distinct_among same a names,
+      sort_among name_order a (distinct same names))
 
   pub among_checked : (a : DomainName) → IsName a → Among a (checked_names z)
   among_checked a m =
       among_sort name_order a (distinct same names)
       (among_distinct name_order name_order_total same name_tie Lower lower_equal a names
-      names_lower (go m))
-    where
-      go : IsName a → (a ≡ folded z.origin) ⊎ Among a (owners z.records)
-      go (inl e) = inl e
-      go (inr k) = inr (once_among a z.records k)
+      names_lower (grind (arith, once_among)))
 
   -- rising names that are the origin and all owners are the checked names
   pub names_checked : (ns : List DomainName) → Rises name_order ns → ((a : DomainName)

@@ -138,7 +138,6 @@ module _ (z : ZoneContents) where
         let under : at_or_below n cut.cut ≡ true = grind (arith, starts_under) in
         let octets = cut.octets in
         let short = no_shorter n cut.cut low_n cut.lower under in
-        let fits : k ≤ length (name_key n) = omega (arith, octets, short) in
         record {
           some = λ l. record {
             cut = cut.cut;
@@ -147,14 +146,8 @@ module _ (z : ZoneContents) where
             above = under;
             octets = cut.octets;
           };
-          least = λ c d is u. go some fits c d is u (cuts c d is u);
+          least = λ c d is u. grind (arith, cuts c d is u, t.least c d is, between c o n, some, octets, short);
         }
-      where
-        go : 0 < k → k ≤ length (name_key n)
-            → (c : DomainName) → folded c ≡ c → is_cut z c ≡ true → at_or_below n c ≡ true
-            → (c ≡ n) ⊎ (is_gt (name_order c o) ≡ false) → (0 < k) × (k ≤ length (name_key c))
-        go s f c d is u (inl e) = (s, subst (λ m. k ≤ length (name_key m)) (sym e) f)
-        go s f c d is u (inr p) = t.least c d is (between c o n p upto u)
 
     -- otherwise n is at or below no cut, except possibly itself
     pub uncovered : covers ≡ false → IsTopmost z n (cond (is_cut z n) (length (name_key n)) 0)
