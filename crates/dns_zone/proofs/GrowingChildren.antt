@@ -58,14 +58,11 @@ module _ (rs : List ResourceRecord) (canonical : IsCanonical rs) (n : DomainName
       (subst (AllByRecursion (λ r. is_under m r ≡ false)) (sym is_row.own)
       (each_weaker (λ (r : ResourceRecord). same r.owner n ≡ true) (λ r. is_under m r ≡ false)
       (filter (is_at n) rs)
-      (λ r s. false_from_ne_true _
-      (λ u. let a = under-longer r.owner m u in let b = same-length r.owner n s in
-      absurd (omega arith)))
+      (λ r s. grind (arith, false_from_ne_true, under-longer r.owner m, same-length r.owner n s, len))
       (filter_each (is_at n) rs)))
       in
-      ap (under m) (take_span row.first row.own_end rs is_row.first_own)
-      ∙ filter-append (is_under m) (take row.first rs) (span rs row.first row.own_end)
-      ∙ ap₂ (λ xs ys. xs ++ ys) before own
+      grind (arith, take_span row.first row.own_end rs is_row.first_own, before, own,
+      filter-append (is_under m) (take row.first rs) (span rs row.first row.own_end))
 
   pub start : (old : List Row) → Adding rs n row.own_end old old row.own_end
   start old = record {
@@ -160,9 +157,8 @@ module _ (rs : List ResourceRecord) (canonical : IsCanonical rs) (n : DomainName
     any_later : (p : ResourceRecord → Bool) → list_any p (drop child.end rs) ≡ true
         → list_any p (drop k rs) ≡ true
     any_later p e =
-        ap (list_any p) (drop_span k child.end rs order)
-        ∙ list_any-append p (span rs k child.end) (drop child.end rs)
-        ∙ or_right (list_any p (span rs k child.end)) _ e
+        grind (arith, drop_span k child.end rs order, or_right,
+        list_any-append p (span rs k child.end) (drop child.end rs))
 
     after_first : AllByRecursion (OwnerNotAfter first) (drop child.end rs)
     after_first =
@@ -249,27 +245,16 @@ module _ (rs : List ResourceRecord) (canonical : IsCanonical rs) (n : DomainName
 
     between_now : IsBetween rs n child.end
     unfolding m
-    between_now m' low under_n len = go (names_equal m' m) refl
-      where
-        other : (names_equal m' m ≡ false) → under m' (under m rs) ≡ []
-        other q =
-            filter_none (is_under m') (under m rs)
-            (each_weaker (λ r. is_under m r ≡ true) (λ r. is_under m' r ≡ false) (under m rs)
-            (λ r u. false_from_ne_true _
-            (λ v. false≢true
-            (sym q ∙ (names_equal-decides m' m).1
-            (one_above r.owner m' m v u len low is_child.lower))))
-            (filter_each (is_under m) rs))
-
-        side : (names_equal m' m ≡ false) → (under m' (take k rs) ≡ []) ⊎ (under m' (drop k rs)
-            ≡ []) → (under m' (take child.end rs) ≡ []) ⊎ (under m' (drop child.end rs) ≡ [])
-        side q (inl e) = grind (arith, take_now, filter-append, is_under, ap₂, other)
-        side q (inr e) = inr (nothing_further (is_under m') rs k child.end order e)
-
-        go : (t : Bool) → names_equal m' m ≡ t
-            → (under m' (take child.end rs) ≡ []) ⊎ (under m' (drop child.end rs) ≡ [])
-        go true q = grind (arith, names_equal-decides, none_after)
-        go false q = side q (a.between m' low under_n len)
+    between_now m' low under_n len =
+        let other : (names_equal m' m ≡ false) → under m' (under m rs) ≡ [] =
+        λ q. filter_none (is_under m') (under m rs)
+        (each_weaker (λ r. is_under m r ≡ true) (λ r. is_under m' r ≡ false) (under m rs)
+        (λ r u. false_from_ne_true _ (λ v. false≢true (sym q ∙ (names_equal-decides m' m).1
+        (one_above r.owner m' m v u len low is_child.lower)))) (filter_each (is_under m) rs)) in
+        let before = a.between m' low under_n len in
+        let past = nothing_further (is_under m') rs k child.end order in
+        let both = filter-append (is_under m') (take k rs) (under m rs) in
+        grind (arith, names_equal-decides m' m, none_after, take_now, other, before, past, both)
 
     pub step : Adding rs n row.own_end old (new ++ child ∷ []) child.end
     step = record {

@@ -5,7 +5,7 @@ use Rattle.dns_zone.proofs.CheckedNames.{itself_upto, equal_upto, key_equal, cut
 use Rattle.dns_zone.proofs.NameTree.{under-from, under-order}
 use Rattle.dns_zone.proofs.ReportedNames.{once_rise, IsName, names_checked}
 use Rattle.dns_zone.proofs.TopmostCut.{topmost_none}
-use Rattle.dns_spec.proofs.General.Elements.{each_map, each_push, among_get, map_each, each_put, put_among, among_put, among_either, mapped_among, among_mapped}
+use Rattle.dns_spec.proofs.General.Elements.{each_map, each_push, among_get, map_each, each_put, put_among, among_put, among_back, among_either, mapped_among, among_mapped}
 
 -- in a rising list, the names before a name are less, and the names after it greater
 rises_around : (ns ms : List DomainName) (n : DomainName) → Rises name_order (ns ++ n ∷ ms)
@@ -13,12 +13,9 @@ rises_around : (ns ms : List DomainName) (n : DomainName) → Rises name_order (
     × AllByRecursion (λ m. name_order n m ≡ Less) ms
 rises_around [] ms n h = (tt, h.0)
 rises_around (k ∷ ns) ms n h =
-    let rest = rises_around ns ms n h.1 in ((middle ns h.0, rest.0), rest.1)
-  where
-    middle : (ks : List DomainName) → AllByRecursion (λ m. name_order k m ≡ Less) (ks ++ n ∷ ms)
-        → name_order k n ≡ Less
-    middle [] e = e.0
-    middle (j ∷ ks) e = middle ks e.1
+    let rest = rises_around ns ms n h.1 in
+    let less = each_at (λ m. name_order k m ≡ Less) n (ns ++ n ∷ ms) h.0
+    (among_back n ns (n ∷ ms) (inl refl)) in ((less, rest.0), rest.1)
 
 -- the last name that was added, with its key and its topmost cut; initially the root
 pub record LastName (z : ZoneContents) (before after : List DomainName) (key : Octets) (cut : ℕ)

@@ -124,27 +124,22 @@ step_first : (z : ZoneContents) (r : ResourceRecord) (rs own others : List Resou
     → IsTaken r.owner k (r ∷ rs) own others → Step z r.owner (r ∷ rs) own others
 step_first z r rs own others k low h t =
     let parts = front (is_at r.owner) (r ∷ rs) (first_parted z r rs h) in
-    let own_is : own ≡ filter (is_at r.owner) (r ∷ rs) =
-    t.own_is ∙ ap (λ i. take i (r ∷ rs)) t.count ∙ parts.0 in
+    let own_is : own ≡ filter (is_at r.owner) (r ∷ rs) = grind (arith, t.own_is, t.count, parts) in
     let others_are : others ≡ filter (λ s. not (is_at r.owner s)) (r ∷ rs) =
-    t.others_are ∙ ap (λ i. drop i (r ∷ rs)) t.count ∙ parts.1 in
-    let after : others ≡ filter (λ s. not (is_at r.owner s)) rs =
-    others_are ∙ without_first (is_at r.owner) r rs (same-from r.owner r.owner refl) in
-    let count : length others ≡ length (filter (λ s. not (is_at r.owner s)) rs) = ap length after in
+    grind (arith, t.others_are, t.count, parts) in
+    let after = without_first (is_at r.owner) r rs (same-from r.owner r.owner refl) in
     let both = length-filter_both (is_at r.owner) (λ s. not (is_at r.owner s)) (λ s. refl) rs in
     record {
       is_owner = subst (IsOwner z r.owner) (sym own_is) (first_is_owner z r rs h low);
       has_owners = subst (HasOwners z) (sym others_are) (others_owners z r.owner (r ∷ rs) h);
-      names = once_others r rs (owners_in_order (r ∷ rs) h.ordered)
-          ∙ ap₂ (λ (n : DomainName) ss. n ∷ owners_once ss) low (sym others_are);
-      fewer = omega arith;
+      names = grind (arith, once_others r rs (owners_in_order (r ∷ rs) h.ordered), low, others_are);
+      fewer = omega (arith, ap length others_are, ap length after);
       first = grind arith;
     }
 
 pub step : (z : ZoneContents) (n : DomainName) (r : ResourceRecord)
     (rs ss own others : List ResourceRecord) (k : ℕ) → n ≡ r.owner → folded n ≡ n
     → ss ≡ r ∷ rs → HasOwners z ss → IsTaken n k ss own others → Step z n ss own others
-step z n r rs ss own others k f low e =
-    subst (λ ts. HasOwners z ts → IsTaken n k ts own others → Step z n ts own others) (sym e)
-    (subst (λ m. folded m ≡ m → HasOwners z (r ∷ rs) → IsTaken m k (r ∷ rs) own others
-    → Step z m (r ∷ rs) own others) (sym f) (step_first z r rs own others k) low)
+step z n r rs ss own others k f low e h t =
+    let first = step_first z r rs own others k in
+    grind (arith, first, f, low, e, h, t)

@@ -30,29 +30,20 @@ one_type : (t : ℕ) (own : List ResourceRecord) → length own ≤ 1
     → (list_any (λ (r : ResourceRecord). r.rtype == t) own
     && list_any (λ (r : ResourceRecord). not (r.rtype == t)) own) ≡ false
 one_type t [] h = refl
-one_type t (r ∷ []) h = go (r.rtype == t)
-  where
-    go : (b : Bool) → ((b || false) && (not b || false)) ≡ false
-    go true = refl
-    go false = refl
+one_type t (r ∷ []) h = grind arith
 one_type t (r ∷ s ∷ rs) h = absurd (omega arith)
 
 each_passes : (p : ResourceRecord → Bool) (rs : List ResourceRecord) → list_all p rs ≡ true
     → AllByRecursion (λ r. p r ≡ true) rs
 each_passes p [] h = tt
-each_passes p (r ∷ rs) h =
-    let parts = and_parts (p r) (list_all p rs) h in (parts.0, each_passes p rs parts.1)
+each_passes p (r ∷ rs) h = grind (arith, and_parts, each_passes p rs)
 
 no_others : (a b c d : Bool) → (not a && not b && not c && d) ≡ true
     → (a ≡ false) × (b ≡ false) × (c ≡ false) × (d ≡ true)
-no_others true b c d h = absurd (false≢true h)
-no_others false true c d h = absurd (false≢true h)
-no_others false false true d h = absurd (false≢true h)
-no_others false false false d h = (refl, refl, refl, h)
+no_others a b c d h = grind arith
 
 no_alias : (a b : Bool) → b ≡ false → (not a || b) ≡ true → a ≡ false
-no_alias true b e h = absurd (false≢true (sym e ∙ h))
-no_alias false b e h = refl
+no_alias a b e h = grind arith
 
 -- a name whose records have plain types
 module _ (z : ZoneContents) (n : DomainName) (own : List ResourceRecord) (is : IsOwner z n own)
@@ -122,21 +113,12 @@ module _ (z : ZoneContents) (n : DomainName) (own : List ResourceRecord) (is : I
         alone (inl more) =
             let no_aliases : none_of (λ t. t == type_cname) = none (λ t. t == type_cname)
             (λ t h. no_alias (t == type_cname) (length own == 1)
-            (ne_eqb (length own) 1 (λ e. absurd (omega (arith, more, e)))) (parts t h).3) in (
-              ap (λ b. b && owns_such z n (λ t. not (t == type_cname)))
-                  (none_owned type_cname no_aliases),
-              ap (λ (rs : List ResourceRecord). nat_lt 1 (number_of (λ t. t == type_cname) rs))
-                  (sym is.own_is) ∙ ap (λ (rs : List ResourceRecord). nat_lt 1 (length rs))
-                  (filter_none (λ (r : ResourceRecord). r.rtype == type_cname) own no_aliases),
-            )
-        alone (inr one) = (
-          ap₂ ◌&&◌ (sym (own_owns z n type_cname)
-              ∙ ap (list_any (λ (r : ResourceRecord). r.rtype == type_cname)) (sym is.own_is))
-              (ap (list_any (λ (r : ResourceRecord). not (r.rtype == type_cname))) (sym is.own_is))
-              ∙ one_type type_cname own one,
-          ap (λ (rs : List ResourceRecord). nat_lt 1 (number_of (λ t. t == type_cname) rs))
-              (sym is.own_is) ∙ few (λ t. t == type_cname) 1 one,
-        )
+            (ne_eqb (length own) 1 (λ e. absurd (omega (arith, more, e)))) (parts t h).3) in
+            let none = filter_none (λ (r : ResourceRecord). r.rtype == type_cname) own no_aliases in
+            grind (arith, none_owned type_cname no_aliases, is.own_is, none)
+        alone (inr one) =
+            grind (arith, own_owns z n type_cname, is.own_is, one_type type_cname own one,
+            few (λ t. t == type_cname) 1 one)
 
         large : large_set z n ≡ false
         large =

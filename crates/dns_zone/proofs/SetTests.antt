@@ -110,13 +110,9 @@ run_after : (t k : ℕ) (rs : List ResourceRecord)
 run_after t zero [] e h = refl
 run_after t (suc k) [] e h = le-ltb (suc k) 0 (omega arith)
 run_after t zero (s ∷ rs) e h = grind (arith, lt-ltb, other_than, eqb-false, no_more, above_all)
-run_after t (suc k) (s ∷ rs) e h = go (eqb s.rtype t) refl (run_after t k rs e.1 h.1)
-  where
-    go : (b : Bool) → eqb s.rtype t ≡ b
-        → nat_lt k (length (of_number t rs)) ≡ begins_with_type t (drop k rs) → nat_lt (suc k)
-        (length (cond b (s ∷ of_number t rs) (of_number t rs))) ≡ begins_with_type t (drop k rs)
-    go true f rest = lt_suc k (length (of_number t rs)) ∙ rest
-    go false f rest = grind (arith, other_than, eqb-false, above_all, no_more, le-ltb, none_after)
+run_after t (suc k) (s ∷ rs) e h =
+    grind (arith, lt_suc, run_after t k rs e.1 h.1, other_than, eqb-false, above_all, no_more, le-ltb,
+    none_after)
 
 first_run : (k : ℕ) (r : ResourceRecord) (rs : List ResourceRecord)
     → Pairs TypeUpTo (r ∷ rs) → is_large k (r ∷ rs) r ≡ begins_with_type r.rtype (drop k rs)
@@ -156,44 +152,43 @@ large-in_runs k rs h = in_runs k rs ∙ sym (large-walk k rs h)
 abbrev number_types : List ResourceRecord → ℕ
 number_types rs = length (distinct ◌==◌ (map (λ (r : ResourceRecord). r.rtype) rs))
 
+abbrev types : List ResourceRecord → List ℕ
+types rs = map (λ (r : ResourceRecord). r.rtype) rs
+
+-- if all types are above t, none is t
+kept_above : (t : ℕ) (rs : List ResourceRecord)
+    → AllByRecursion (λ (s : ResourceRecord). t < s.rtype) rs
+    → filter (λ u. not (eqb t u)) (distinct ◌==◌ (types rs)) ≡ distinct ◌==◌ (types rs)
+kept_above t rs e =
+    filter_all (λ u. not (eqb t u)) (distinct ◌==◌ (types rs))
+    (each_weaker (λ u. t < u) (λ u. not (eqb t u) ≡ true) (distinct ◌==◌ (types rs))
+    (λ u l. ap not (ne_eqb t u (λ k. absurd (omega arith)))) (each_distinct (λ u. t < u) ◌==◌ (types rs)
+    (each_map (λ u. t < u) (λ (r : ResourceRecord). r.rtype) rs e)))
+
 pub types-walk : (rs : List ResourceRecord) → Pairs TypeUpTo rs → number_types rs ≡ sets_ended rs
 types-walk [] h = refl
 types-walk (r ∷ []) h = refl
 types-walk (r ∷ s ∷ rs) h = go (eqb s.rtype r.rtype) refl (types-walk (s ∷ rs) h.1)
   where
     go : (b : Bool) → eqb s.rtype r.rtype ≡ b → number_types (s ∷ rs) ≡ sets_ended (s ∷ rs)
-        → suc (length (filter (λ t. not (eqb r.rtype t)) (distinct ◌==◌
-        (map (λ (r : ResourceRecord). r.rtype) (s ∷ rs))))) ≡ cond b 0 1 + sets_ended (s ∷ rs)
+        → suc (length (filter (λ t. not (eqb r.rtype t)) (distinct ◌==◌ (types (s ∷ rs)))))
+        ≡ cond b 0 1 + sets_ended (s ∷ rs)
     go true e n =
         let one = eqb-true s.rtype r.rtype e in
         let itself : eqb r.rtype s.rtype ≡ true = eq-eqb _ _ (sym one) in
-        let zs = filter
-        (λ t. not (eqb s.rtype t)) (distinct ◌==◌ (map (λ (q : ResourceRecord). q.rtype) rs)) in
+        let zs = filter (λ t. not (eqb s.rtype t)) (distinct ◌==◌ (types rs)) in
         let dropped : length (filter (λ t. not (eqb r.rtype t)) (s.rtype ∷ zs)) ≡ length zs =
         ap (λ b. length (cond (not b) (s.rtype ∷ filter (λ t. not (eqb r.rtype t)) zs)
         (filter (λ t. not (eqb r.rtype t)) zs))) itself ∙ ap
         (λ (k : ℕ). length (filter (λ t. not (eqb k t)) zs)) (sym one) ∙ ap length (filter_again
-        (λ t. not (eqb s.rtype t)) (distinct ◌==◌ (map (λ (q : ResourceRecord). q.rtype) rs)))
+        (λ t. not (eqb s.rtype t)) (distinct ◌==◌ (types rs)))
         in
         omega arith
     go false e n =
         let next = h.0.0 in
         let above : r.rtype < s.rtype =
         other_than r.rtype s.rtype next (eqb-false s.rtype r.rtype e) in
-        let others : AllByRecursion (λ t. r.rtype < t)
-        (map (λ (q : ResourceRecord). q.rtype) (s ∷ rs)) =
-        each_map (λ t. r.rtype < t)
-        (λ (q : ResourceRecord). q.rtype) (s ∷ rs) (above, above_all r.rtype s rs above h.1.0)
-        in
-        let kept : filter (λ t. not (eqb r.rtype t))
-        (distinct ◌==◌ (map (λ (q : ResourceRecord). q.rtype) (s ∷ rs))) ≡ distinct ◌==◌
-        (map (λ (q : ResourceRecord). q.rtype) (s ∷ rs)) = filter_all (λ t. not (eqb r.rtype t))
-        (distinct ◌==◌ (map (λ (q : ResourceRecord). q.rtype) (s ∷ rs)))
-        (each_weaker (λ t. r.rtype < t) (λ t. not (eqb r.rtype t) ≡ true)
-        (distinct ◌==◌ (map (λ (q : ResourceRecord). q.rtype) (s ∷ rs)))
-        (λ t l. ap not (ne_eqb r.rtype t (λ k. absurd (omega arith)))) (each_distinct
-        (λ t. r.rtype < t) ◌==◌ (map (λ (q : ResourceRecord). q.rtype) (s ∷ rs)) others))
-        in
+        let kept = kept_above r.rtype (s ∷ rs) (above, above_all r.rtype s rs above h.1.0) in
         omega (arith, ap length kept)
 
 -- there are at most as many RRsets as records

@@ -76,10 +76,7 @@ module _ (c : In_ok-push) where
   own_there : own_in c.args.records.now added ≡ own
   own_there =
       let size : (c.owners.first + length own) - c.owners.first ≡ length own = omega arith in
-      let count : length own ≡ 1 + c.count_in_front.result =
-      c.split_at.ensures.front_len in
-      ap₂ (λ k (rs : List ResourceRecord). take k rs) (size ∙ count) (sym c.owners.invariant.part)
-      ∙ sym c.split_at.ensures.front
+      grind (arith, size, c.owners.invariant.part, c.split_at.ensures.front, c.split_at.ensures.front_len)
 
   name_there : owner_of z added ≡ n
   name_there = ap (first_owner c.args.origin.now) own_there ∙ stepped.first c.args.origin.now
@@ -133,26 +130,21 @@ owners-smaller c = (stepped c).fewer
 
 pub owners-preserved : goal.owners-preserved
 owners-preserved c =
-    let items = sym c.in_ok-push.ensures.items in
+    let items = c.in_ok-push.ensures.items in
     let count = c.owners.invariant.count in
     let size = both c in
     let old = c.owners.names.items in
     record {
-      all = subst (λ ns. map (owner_of (z c)) ns ++ owners_once (others c)
-          ≡ owners_once c.args.records.now) items
-          (all_added (z c) old (added c) (n c) (owners_once (others c)) (name_there c) ∙ whole c);
-      each = subst (AllByRecursion (λ d. IsChecked (z c) (owner_of (z c) d) d)) items
-          (each_added (z c) old (added c) (n c) c.owners.invariant.each (name_there c) (checked c));
+      all = grind (arith, items, whole c,
+          all_added (z c) old (added c) (n c) (owners_once (others c)) (name_there c));
+      each = grind (arith, items,
+          each_added (z c) old (added c) (n c) c.owners.invariant.each (name_there c) (checked c));
       whole = (stepped c).has_owners;
       part = c.split_at.ensures.back ∙ ap (drop (1 + c.count_in_front.result))
           c.owners.invariant.part ∙ drop-drop (1 + c.count_in_front.result)
           c.owners.first c.args.records.now ∙ ap (λ k. drop (c.owners.first + k) c.args.records.now)
           (sym c.split_at.ensures.front_len);
       count = omega (arith, count, size);
-      last = subst (λ ns. LastName (z c) (map (owner_of (z c)) ns) (owners_once (others c))
-          c.key_at-next.result.now c.cut_of-cut.result) items
-          (subst (λ ms. LastName (z c) ms (owners_once (others c))
-          c.key_at-next.result.now c.cut_of-cut.result) (sym (names c))
-          (added_last (z c) c.requires.ordered (map (owner_of (z c)) old) (owners_once (others c))
-          (n c) (whole c) c.owner-owner.ensures.lower _ _ (key c) (topmost c)));
+      last = grind (arith, items, names c, added_last (z c) c.requires.ordered (map (owner_of (z c)) old)
+          (owners_once (others c)) (n c) (whole c) c.owner-owner.ensures.lower _ _ (key c) (topmost c));
     }
