@@ -224,24 +224,20 @@ module _ (rs : List ResourceRecord) (canonical : IsCanonical rs) (n : DomainName
     unfolding m
     all_now l e =
         let p = is_under (l ∷ n) in
-        subst (Among (map to_ascii_lowercase l)) (sym labels_now)
-        (go (or_cases (list_any p (take k rs)) (list_any p (under m rs))
-        (sym (list_any-append p (take k rs) (under m rs)) ∙ ap (list_any p) (sym take_now) ∙ e)))
-      where
-        go : (list_any (is_under (l ∷ n)) (take k rs) ≡ true)
-            ⊎ (list_any (is_under (l ∷ n)) (under m rs) ≡ true)
-            → Among (map to_ascii_lowercase l) (map (row_label rs) a.children ++ row_label rs child ∷ [])
-        go (inl f) = grind (arith, among_front)
-        go (inr f) =
-            let s = any_among (is_under (l ∷ n)) (under m rs) f in
-            let one : m ≡ map to_ascii_lowercase l ∷ n =
-            one_above s.0.owner m (map to_ascii_lowercase l ∷ n)
-            (filter_test (is_under m) s.0 rs s.1) (lower_child s.0 l s.2) refl is_child.lower
-            (ap₂ (λ (x : Octets) (y : DomainName). x ∷ y) (ap first_of (folded_folded (l ∷ [])))
-            is_row.lower)
-            in
-            among_back (map to_ascii_lowercase l) (map (row_label rs) a.children)
-            (row_label rs child ∷ []) (inl (sym (ap first_of one) ∙ sym label_is))
+        let l' = map to_ascii_lowercase l in
+        let either = list_any-append p (take k rs) (under m rs) in
+        let later : list_any p (under m rs) ≡ true → Among l' (map (row_label rs) a.children ++ row_label rs child ∷ []) = λ f.
+        let s = any_among p (under m rs) f in
+        let one : m ≡ l' ∷ n =
+        one_above s.0.owner m (l' ∷ n)
+        (filter_test (is_under m) s.0 rs s.1) (lower_child s.0 l s.2) refl is_child.lower
+        (ap₂ (λ (x : Octets) (y : DomainName). x ∷ y) (ap first_of (folded_folded (l ∷ [])))
+        is_row.lower)
+        in
+        among_back l' (map (row_label rs) a.children)
+        (row_label rs child ∷ []) (inl (sym (ap first_of one) ∙ sym label_is)) in
+        grind (arith, labels_now, take_now, either, or_cases (list_any p (take k rs)), later, a.all l,
+        among_front l' (map (row_label rs) a.children))
 
     between_now : IsBetween rs n child.end
     unfolding m

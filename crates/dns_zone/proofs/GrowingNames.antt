@@ -169,17 +169,9 @@ module _ (z : ZoneContents) (low : folded z.origin ≡ z.origin) (ordered : AreO
             all = names_checked z (map (owner_of z) (take k names ++ c ∷ drop k names))
                 (insert_rises (owner_of z) names k c rise before
                 (after_each z names are.each rise o low key key_is k front))
-                (λ a m. from a (put_among (owner_of z) a names k c m))
-                (λ a m. among_put (owner_of z) a names k c (back a m));
+                (λ a m. grind (arith, put_among (owner_of z) a names k c m, low, are.all))
+                (λ a m. among_put (owner_of z) a names k c (grind (arith, m, low, are.all)));
           }
-        where
-          from : (a : DomainName) → (a ≡ o) ⊎ Among a (map (owner_of z) names) → IsName z a
-          from a (inl f) = inl (f ∙ sym low)
-          from a (inr m) = inr (subst (Among a) are.all m)
-
-          back : (a : DomainName) → IsName z a → (a ≡ o) ⊎ Among a (map (owner_of z) names)
-          back a (inl f) = inl (f ∙ low)
-          back a (inr m) = inr (subst (Among a) (sym are.all) m)
 
     -- all of the first k names are before the origin, if the last of them is not the origin
     pub others_before : (i : ℕ) → k ≡ suc i → (c : CheckedName) → c ≡ get_or names i c

@@ -26,9 +26,7 @@ less_itself : (r : ResourceRecord) → record_order r r ≡ Less → ⊥
 less_itself r h = grind (arith, tied_itself, record_order_total)
 
 tested_twice : (a b c : Bool) → (a && (b && (a && (b && c)))) ≡ (a && (b && c))
-tested_twice true true c = refl
-tested_twice true false c = refl
-tested_twice false b c = refl
+tested_twice a b c = grind arith
 
 module _ (origin keys : Octets) (rs : List ResourceRecord) (first : ResourceRecord)
     (low : All IsReadRecord rs) where
@@ -78,9 +76,7 @@ module _ (origin keys : Octets) (rs : List ResourceRecord) (first : ResourceReco
   inside_among : (ps : List SortKey) → AllByRecursion (IsSortKey origin keys rs) ps
       → (a : ResourceRecord) → Among a (map f ps) → Among a rs
   inside_among [] e a m = absurd m
-  inside_among (p ∷ ps) e a (inl g) =
-      subst (λ r. Among r rs) (sym g) (among_get rs p.at first e.0.inside)
-  inside_among (p ∷ ps) e a (inr m) = inside_among ps e.1 a m
+  inside_among (p ∷ ps) e a m = grind (arith, m, among_get rs p.at first e.0.inside, inside_among ps e.1 a)
 
   module _ (ps qs : List SortKey) (all : AreSortKeys origin keys rs ps) (moved : IsPermutation ps qs)
       (sorted : IsSorted R qs) where

@@ -41,12 +41,10 @@ module _ (c : After-shortest_end-name) where
 
   none_after : under c.shortest_end-name.result (drop c.index-row.result.now.end rs) ≡ []
   none_after =
-      none_under c.shortest_end-name.result (row_name rs row) (drop c.index-row.result.now.end rs)
-      (subst (λ (m : DomainName). at_or_below m (row_name rs row) ≡ true) (sym child.labels)
-      (cons_under child.label (row_name rs row)))
-      (subst (λ (r : Row). under (row_name rs row) (drop r.end rs) ≡ []) (sym row_is)
-      (none_past (is_under (row_name rs row)) rs row.first row.end
-      (omega (arith, c.requires.row.more)) c.requires.row.below))
+      let past = none_past (is_under (row_name rs row)) rs row.first row.end
+      (omega (arith, c.requires.row.more)) c.requires.row.below in
+      grind (arith, none_under c.shortest_end-name.result (row_name rs row), child.labels, row_is, past,
+      cons_under child.label (row_name rs row))
 
 pub children-init : goal.children-init
 children-init c = search (rules, same_row, start)
@@ -77,11 +75,9 @@ children-preserved c =
     let row = row_at rows c.args.number in
     let child : IsChild rs (row_name rs row) c.of-child.result = record {
       label = (child at).label;
-      is_row =
-          subst (IsRow rs c.of-child.result) (child at).labels c.of-child.ensures.row;
+      is_row = rw (← (child at).labels) c.of-child.ensures.row;
     } in
-    subst (λ (new : List Row). Adding rs (row_name rs row) row.own_end rows new c.of-child.result.end)
-    (sym c.in_ok-push.ensures.items)
+    rw c.in_ok-push.ensures.items
     (step rs c.requires.canonical (row_name rs row) row c.requires.row rows c.children.rows.items
     c.children.next c.children.invariant c.of-child.result child c.of-child.ensures.first)
 

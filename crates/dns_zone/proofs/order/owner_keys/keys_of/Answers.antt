@@ -5,8 +5,7 @@ use Rattle.dns_zone.proofs.order.owner_keys.keys_of.Goals.{then-ne+in_ok-extend_
 
 fronts_are : (a b o key : Octets) (f i : ℕ) → a ≡ o → b ≡ key → AreFronts a b f i
     → AreFronts o key f i
-fronts_are a b o key f i e g h =
-    subst (λ x. AreFronts x key f i) e (subst (λ y. AreFronts a y f i) g h)
+fronts_are a b o key f i e g h = grind (arith, e, g, h)
 
 pub records-init : goal.records-init
 records-init c =
@@ -14,24 +13,20 @@ records-init c =
     c.new-last.ensures.value
     ∙ labels_of_spelled _ _ c.octets-2.ensures.value c.octets-2.ensures.is_name in
     let keys : c.extend_from_slice.new.self.items ≡ name_key c.args.origin.now = search rules in
+    let added = key_added [] [] c.args.origin.now in
     let first : key_in c.extend_from_slice.new.self.items 0 c.args.origin.now
-    ≡ name_key c.args.origin.now =
-    subst (λ xs. key_in xs 0 c.args.origin.now ≡ name_key c.args.origin.now) (sym keys)
-    (key_added [] [] c.args.origin.now) in
+    ≡ name_key c.args.origin.now = grind (arith, keys, added) in
+    let none = c.in_ok-sort_keys.ensures.items in
     record {
       key = c.of-key.ensures ∙ ap name_key (sym last);
-      last = subst (λ s. key_in c.extend_from_slice.new.self.items s c.new-last.result
-          ≡ name_key c.new-last.result) (sym c.of-sort_key.ensures.start)
-          (subst (λ n. key_in c.extend_from_slice.new.self.items 0 n ≡ name_key n) (sym last)
-          first);
+      last = grind (arith, c.of-sort_key.ensures.start, last, first);
       fronts = fronts_are _ _ _ _ _ _ (c.octets-3.ensures.value ∙ c.of-first.ensures)
           (c.octets-4.ensures.value ∙ c.of-key.ensures ∙ ap name_key (sym last))
           c.of-sort_key.ensures.fronts;
       origin = first;
-      count = ap length c.in_ok-sort_keys.ensures.items;
-      at = λ i d l. absurd (omega (arith, l, ap length c.in_ok-sort_keys.ensures.items));
-      each = subst (All (IsSortKey (name_key c.args.origin.now) c.extend_from_slice.new.self.items
-          c.args.records.now)) (sym c.in_ok-sort_keys.ensures.items) (All-nil _);
+      count = ap length none;
+      at = λ i d l. absurd (omega (arith, l, ap length none));
+      each = grind (arith, none, All-nil);
       few = grind arith;
       read = All-nil IsReadRecord;
     }
@@ -76,15 +71,9 @@ key_kept origin old new key sort_key last m n k e g h at fronts = rw (e, g, h) (
 at_pushed : (ps : List SortKey) (p : SortKey) → p.at ≡ length ps
     → ((i : ℕ) (d : SortKey) → i < length ps → (get_or ps i d).at ≡ i)
     → (i : ℕ) (d : SortKey) → i < length (ps ++ p ∷ []) → (get_or (ps ++ p ∷ []) i d).at ≡ i
-at_pushed ps p e h i d l = go (cases_lt i (length ps))
-  where
-    go : (i < length ps) ⊎ (length ps ≤ i) → (get_or (ps ++ p ∷ []) i d).at ≡ i
-    go (inl m) =
-        ap (λ (q : SortKey). q.at) (get_or_append_left ps (p ∷ []) d i m) ∙ h i d m
-    go (inr m) =
-        let is : i ≡ length ps = omega (arith, l, m, length-append ps (p ∷ [])) in
-        ap (λ j. (get_or (ps ++ p ∷ []) j d).at) is
-        ∙ ap (λ (q : SortKey). q.at) (get_or-append_seam ps p [] d) ∙ e ∙ sym is
+at_pushed ps p e h i d l =
+    grind (arith, cases_lt i (length ps), get_or_append_left ps (p ∷ []) d i, h i d,
+    get_or-append_seam ps p [] d, length-append ps (p ∷ []))
 
 pub records-preserved : goal.records-preserved
 records-preserved c =
@@ -92,36 +81,30 @@ records-preserved c =
     let o = name_key c.args.origin.now in
     let old = c.records.keys.items in
     let new = c.if-ne.keys.items in
-    let key = c.if-ne.key in
     let last = c.if-ne.last in
     let sort_key = c.if-ne.sort_key in
     let k = c.records.each-index in
     let rs = c.args.records.now in
     let inv = c.records.invariant in
-    let few = inv.few in
     let here : (r : ResourceRecord) → (get_or rs k r).owner ≡ n =
     λ r. ap (λ (s : ResourceRecord). s.owner)
     (get_or_default rs k r c.each-item.result c.records-test.true ∙ sym c.each-item.is)
     ∙ sym c.owner-owner.ensures.value in
-    let added : Added o old new key sort_key last n = elim c.if-ne.branch [
+    let added : Added o old new c.if-ne.key sort_key last n = elim c.if-ne.branch [
       | then-ne+in_ok-extend_from_slice-2 w ↦
           let is = w.key-is ∙ w.move_to.ensures in
           let more : w.octets-then-ne-3.result.now ≡ name_key n = search (rules, is) in
           let bound = w.octets-then-ne-3.ensures.bound in
           let fronts = fronts_are _ _ o (name_key n) _ _ (search rules) (search (rules, is))
           w.of-sort_key-then-ne.ensures.fronts in
-          key_put o old new key sort_key last n is (search (rules, more)) (search rules)
-          (subst (λ (p : SortKey). AreFronts o (name_key n) p.front p.next) (sym w.sort_key-is) fronts)
-          w.last-is (omega (arith, bound, ap length more))
+          key_put o old new c.if-ne.key sort_key last n is (search (rules, more)) (search rules)
+          (grind (arith, w.sort_key-is, fronts)) w.last-is (omega (arith, bound, ap length more))
       | else-ne w ↦
           let same : n ≡ c.records.last =
           (names_equal-decides n c.records.last).0 (search rules) in
-          key_kept o old new key sort_key last _ n (w.key-is ∙ inv.key) (search rules) w.last-is same
-          (subst (λ (p : SortKey). IsAt old p.start c.records.last) (sym w.sort_key-is) inv.last)
-          (subst (λ (p : SortKey). AreFronts o (name_key c.records.last) p.front p.next)
-          (sym w.sort_key-is) inv.fronts)
+          key_kept o old new c.if-ne.key sort_key last _ n (w.key-is ∙ inv.key) (search rules) w.last-is same
+          (grind (arith, w.sort_key-is, inv.last)) (grind (arith, w.sort_key-is, inv.fronts))
     ] in
-    let fits = added.fits in
     let ps = c.records.sort_keys.items in
     let pushed : SortKey = record {
       front = sort_key.front;
@@ -135,28 +118,25 @@ records-preserved c =
     let owner : (r : ResourceRecord) → (placed rs r pushed).owner ≡ n =
     λ r. ap (λ j. (get_or rs j r).owner) index ∙ here r in
     let is_place : IsSortKey o new rs pushed = record {
-      inside = subst (λ j. j < length rs) (sym index) c.records-test.true;
-      key = λ r. subst (IsAt new sort_key.start) (sym (owner r)) added.at;
-      fronts = λ r. subst (λ m. AreFronts o (name_key m) sort_key.front sort_key.next) (sym (owner r))
-          added.fronts;
+      inside = grind (arith, index, c.records-test.true);
+      key = λ r. grind (arith, owner r, added.at);
+      fronts = λ r. grind (arith, owner r, added.fronts);
     } in
     record {
       key = added.key_is ∙ ap name_key (sym added.is);
-      last = subst (IsAt new sort_key.start) (sym added.is) added.at;
-      fronts = subst (λ m. AreFronts o (name_key m) sort_key.front sort_key.next) (sym added.is)
-          added.fronts;
+      last = grind (arith, added.is, added.at);
+      fronts = grind (arith, added.is, added.fronts);
       origin = added.stays c.args.origin.now 0 inv.origin;
-      count = ap length items ∙ length-append ps _ ∙ ap (λ j. j + 1) inv.count;
-      at = subst (λ qs. (i : ℕ) (d : SortKey) → i < length qs → (get_or qs i d).at ≡ i) (sym items)
-          (at_pushed ps pushed at inv.at);
-      each = subst (All (IsSortKey o new rs)) (sym items)
+      count = grind (arith, items, length-append ps, inv.count);
+      at = rw items (at_pushed ps pushed at inv.at);
+      each = rw items
           (All-push (IsSortKey o new rs) ps pushed (All-weaker (IsSortKey o old rs) (IsSortKey o new rs)
           (λ p h. record {
             inside = h.inside;
             key = λ r. added.stays (placed rs r p).owner p.start (h.key r);
             fronts = h.fronts;
           }) ps inv.each) is_place);
-      few = omega (arith, few, fits);
+      few = grind (arith, inv.few, added.fits);
       read = All-more IsReadRecord rs k c.each-item.result c.records-test.true inv.read
           (subst IsReadRecord c.each-item.is c.owner-owner.ensures.read);
     }

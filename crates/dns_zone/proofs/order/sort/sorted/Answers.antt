@@ -14,8 +14,7 @@ keyed keys rs ss ps starts h e f = rw (e, f) (record {
       let inside : i < length ps = omega (arith, l, length-map ps (placed rs no_record)) in
       let record_is = get_or-map (placed rs no_record) ps i no_sort_key r inside in
       let start_is = get_or-map (λ (p : SortKey). p.start) ps i no_sort_key s inside in
-      ap₂ (λ k (t : ResourceRecord). key_in keys k t.owner) start_is record_is
-      ∙ h.key i no_sort_key inside ∙ ap (λ (t : ResourceRecord). name_key t.owner) (sym record_is);
+      grind (arith, record_is, start_is, h.key i no_sort_key inside);
 })
 
 module _ (c : In_ok-sort_distinct) where
@@ -31,15 +30,9 @@ module _ (c : In_ok-sort_distinct) where
   are_sorted : AreSorted c.in_ok-keys.keys.items rs ps
   are_sorted =
       let o = name_key c.args.origin.now in
-      let qs = c.in_ok-keys.sort_keys.items in
       let keys = c.as_slice-2.ensures.value in
       let records = c.as_slice-3.ensures.value in
-      subst (λ ks. AreSorted ks rs ps) keys
-      (subst (λ ss. AreSorted c.as_slice-2.result.now ss ps) records
-      (c.in_ok-sort_distinct.ensures o
-      (subst (λ ks. AreSortKeys o ks c.as_slice-3.result.now qs) (sym keys)
-      (subst (λ ss. AreSortKeys o c.in_ok-keys.keys.items ss qs)
-      (c.as_slice.ensures.value ∙ sym records) c.in_ok-keys.ensures.sort_keys))))
+      grind (arith, keys, records, c.as_slice.ensures.value, c.in_ok-keys.ensures.sort_keys, c.in_ok-sort_distinct.ensures o)
 
 pub gather-requires-clause-inside : goal.gather-requires-clause-inside
 gather-requires-clause-inside c =
