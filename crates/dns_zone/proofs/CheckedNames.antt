@@ -205,9 +205,16 @@ module _ (z : ZoneContents) where
           → is_covered c.cut c.key.now key ≡ at_or_below_cut z m
       covered_cut key e f =
           let parts = and_parts (nat_lt 0 c.cut) (starts_with ◌==◌ (name_key m) (take c.cut (name_key last))) in
-          grind (arith, e, h.checked.key, parts, at_cut z m low c.cut, none_cut (is_cut z m) (no_cut (no_owner f)),
-          covered z last m h.checked.owner.lower low c.cut h.checked.topmost h.upto cuts_upto,
-          uncovered z last m h.checked.owner.lower low c.cut h.checked.topmost h.upto cuts_upto)
+          grind (
+            arith,
+            e,
+            h.checked.key,
+            parts,
+            at_cut z m low c.cut,
+            none_cut (is_cut z m) (no_cut (no_owner f)),
+            covered z last m h.checked.owner.lower low c.cut h.checked.topmost h.upto cuts_upto,
+            uncovered z last m h.checked.owner.lower low c.cut h.checked.topmost h.upto cuts_upto,
+          )
 
       pub found_cut : last ≡ m → nat_lt 0 c.cut ≡ at_or_below_cut z m
       found_cut e = grind (arith, at_cut)

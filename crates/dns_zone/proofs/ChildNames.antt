@@ -65,8 +65,7 @@ one_above r a b p q e low low' = grind (arith, same-is, and_parts)
 common_front : (zs : List Octets) (xs ys : List Octets)
     → slice_cmp label_order (zs ++ xs) (zs ++ ys) ≡ slice_cmp label_order xs ys
 common_front [] xs ys = refl
-common_front (z ∷ zs) xs ys =
-    grind (arith, tied_itself, nat_list_cmp_total, (common_front zs xs ys))
+common_front (z ∷ zs) xs ys = grind (arith, tied_itself, nat_list_cmp_total, common_front zs xs ys)
 
 turned : (r n : DomainName) (k : Octets) → folded n ≡ n → map to_ascii_lowercase k ≡ k → at_or_below
     r (k ∷ n) ≡ true → (xs : List Octets) × (reverse (folded r) ≡ reverse n ++ (k ∷ xs))

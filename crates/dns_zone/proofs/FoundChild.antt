@@ -12,9 +12,8 @@ room_after (suc k) = room_after k / 2
 rises_at : (ls : List Octets) (i j : ℕ) → Rises label_order ls → i < j → j < length ls
     → label_order (get_or ls i []) (get_or ls j []) ≡ Less
 rises_at [] i j r h l = absurd (omega arith)
-rises_at (x ∷ ls) zero zero r h l = absurd (omega arith)
+rises_at (x ∷ ls) i zero r h l = absurd (omega arith)
 rises_at (x ∷ ls) zero (suc j) r h l = grind (arith, each_get)
-rises_at (x ∷ ls) (suc i) zero r h l = absurd (omega arith)
 rises_at (x ∷ ls) (suc i) (suc j) r h l = rises_at ls i j r.1 (omega arith) (omega arith)
 
 -- an invariant: only the children from `low` to before `high` can have the label
@@ -76,12 +75,8 @@ module _ (rs : List ResourceRecord) (children : List Row) (label : Octets) where
     between : (i j : ℕ) → i < j → j < length children
         → label_order (row_label rs (row_at children i)) (row_label rs (row_at children j)) ≡ Less
     between i j h l =
-        subst (λ (x : Octets). label_order x (row_label rs (row_at children j)) ≡ Less)
-        (label_at i (omega arith))
-        (subst (λ (y : Octets). label_order (get_or (map (row_label rs) children) i []) y ≡ Less)
-        (label_at j l)
-        (rises_at (map (row_label rs) children) i j rising h
-        (omega (arith, length-map children (row_label rs)))))
+        let less = rises_at (map (row_label rs) children) i j rising h in
+        grind (arith, less, label_at i, label_at j l, length-map children (row_label rs))
 
     -- One comparison with the child in the middle halves the room.
     module _ (low high turn : ℕ) (s : Searching rs children label low high turn) (middle : ℕ) where
@@ -103,12 +98,5 @@ module _ (rs : List ResourceRecord) (children : List Row) (label : Octets) where
         let fits : c.0 < length children = omega (arith, length-map children (row_label rs)) in
         let is : row_label rs (row_at children c.0) ≡ label =
         sym (label_at c.0 fits) ∙ get_or_default (map (row_label rs) children) c.0 [] label c.1 ∙ c.2 in
-        go c.0 fits is (cases_lt c.0 at)
-      where
-        tied : label_order label label ≡ Equal
-        tied = tied_itself nat_list_cmp_total label
-
-        go : (k : ℕ) → k < length children → row_label rs (row_at children k) ≡ label → (k < at) ⊎ (at ≤ k)
-            → ⊥
-        go k h is (inl l) = grind (arith, false≢true, tied)
-        go k h is (inr l) = grind (arith, false≢true, tied)
+        let tied = tied_itself nat_list_cmp_total label in
+        grind (arith, cases_lt c.0 at, s.before c.0, s.after c.0, fits, is, tied)

@@ -105,8 +105,18 @@ module _ (old now next : List ResourceRecord) (first ps next_ps : List SortKey) 
   on : (i : ℕ) → i < to + 1 → to + 1 ≤ end i
       → (i < at_of next_ps i) × (end (at_of next_ps i) ≡ end i)
   on i l m =
-      grind (arith, either i to, either (h.end i) to, h.ends.next i, h.ends.stop to, stop from, put,
-      same_at, moved, kept)
+      grind (
+        arith,
+        either i to,
+        either (h.end i) to,
+        h.ends.next i,
+        h.ends.stop to,
+        stop from,
+        put,
+        same_at,
+        moved,
+        kept,
+      )
 
   at_now : (k : ℕ) → to + 1 ≤ k → k < length first
       → IsAt old next (to + 1) (at_of first k) (end (at_of first k))

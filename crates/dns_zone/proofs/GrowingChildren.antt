@@ -61,8 +61,13 @@ module _ (rs : List ResourceRecord) (canonical : IsCanonical rs) (n : DomainName
       (λ r s. grind (arith, false_from_ne_true, under-longer r.owner m, same-length r.owner n s, len))
       (filter_each (is_at n) rs)))
       in
-      grind (arith, take_span row.first row.own_end rs is_row.first_own, before, own,
-      filter-append (is_under m) (take row.first rs) (span rs row.first row.own_end))
+      grind (
+        arith,
+        take_span row.first row.own_end rs is_row.first_own,
+        before,
+        own,
+        filter-append (is_under m) (take row.first rs) (span rs row.first row.own_end),
+      )
 
   pub start : (old : List Row) → Adding rs n row.own_end old old row.own_end
   start old = record {
@@ -157,8 +162,12 @@ module _ (rs : List ResourceRecord) (canonical : IsCanonical rs) (n : DomainName
     any_later : (p : ResourceRecord → Bool) → list_any p (drop child.end rs) ≡ true
         → list_any p (drop k rs) ≡ true
     any_later p e =
-        grind (arith, drop_span k child.end rs order, or_right,
-        list_any-append p (span rs k child.end) (drop child.end rs))
+        grind (
+          arith,
+          drop_span k child.end rs order,
+          or_right,
+          list_any-append p (span rs k child.end) (drop child.end rs),
+        )
 
     after_first : AllByRecursion (OwnerNotAfter first) (drop child.end rs)
     after_first =
@@ -236,8 +245,16 @@ module _ (rs : List ResourceRecord) (canonical : IsCanonical rs) (n : DomainName
         in
         among_back l' (map (row_label rs) a.children)
         (row_label rs child ∷ []) (inl (sym (ap first_of one) ∙ sym label_is)) in
-        grind (arith, labels_now, take_now, either, or_cases (list_any p (take k rs)), later, a.all l,
-        among_front l' (map (row_label rs) a.children))
+        grind (
+          arith,
+          labels_now,
+          take_now,
+          either,
+          or_cases (list_any p (take k rs)),
+          later,
+          a.all l,
+          among_front l' (map (row_label rs) a.children),
+        )
 
     between_now : IsBetween rs n child.end
     unfolding m

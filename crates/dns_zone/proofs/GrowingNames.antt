@@ -60,9 +60,17 @@ module _ (z : ZoneContents) (ordered : AreOrdered z.records) (ns ms : List Domai
     key_is = g;
     owner = i;
     upto = h.from.0;
-    cuts = λ c d is u. grind (arith, among_either c ns (n ∷ ms), all, cut_among z c d is,
-        each_at (λ m. is_gt (name_order m h.name) ≡ false) c ns h.upto,
-        each_at (λ m. name_order n m ≡ Less) c ms around.1, under-order n c u, name_order_total, true≢false);
+    cuts = λ c d is u. grind (
+      arith,
+      among_either c ns (n ∷ ms),
+      all,
+      cut_among z c d is,
+      each_at (λ m. is_gt (name_order m h.name) ≡ false) c ns h.upto,
+      each_at (λ m. name_order n m ≡ Less) c ms around.1,
+      under-order n c u,
+      name_order_total,
+      true≢false,
+    );
   }
 
   pub added_last : (key : Octets) (cut : ℕ) → key ≡ name_key n → IsTopmost z n cut

@@ -52,20 +52,16 @@ module _ (o : DomainName) (rs : List ResourceRecord) (rows : List Row) (bounds :
       where
         go : (k < length rows) ⊎ (length rows ≤ k)
             → IsRow rs (row_at rows' k) (row_name rs (row_at rows' k))
-        go (inl m) = subst (λ (r : Row). IsRow rs r (row_name rs r)) (sym (keep k m)) (g.each k m)
+        go (inl m) = grind (arith, keep k m, g.each k m)
         go (inr m) =
             let n = row_name rs (row_at rows i) in
-            let fits : k - length rows < length (drop (length rows) rows') =
-            omega (arith, length-drop (length rows) rows') in
             let at : length rows + (k - length rows) ≡ k = omega arith in
             let child =
             each_get (IsChild rs n) (drop (length rows) rows') (k - length rows) no_row a.children.each
-            fits in
-            let there : get_or
-            (drop (length rows) rows') (k - length rows) no_row ≡ row_at rows' k =
-            get_or-drop (length rows) rows' (k - length rows) no_row ∙ ap (row_at rows') at in
-            subst (λ (r : Row). IsRow rs r (row_name rs r)) there
-            (own_name rs _ (child.label ∷ n) child.is_row)
+            (omega (arith, length-drop (length rows) rows')) in
+            let there = get_or-drop (length rows) rows' (k - length rows) no_row in
+            let row = own_name rs _ (child.label ∷ n) child.is_row in
+            grind (arith, at, there, row)
 
     rise_now : (k : ℕ) → k < i + 1 → get_or bounds' k 0 ≤ get_or bounds' (k + 1) 0
     rise_now k l = grind (arith, now, bound, last_bound)
@@ -75,11 +71,8 @@ module _ (o : DomainName) (rs : List ResourceRecord) (rows : List Row) (bounds :
 
     children_now : (k : ℕ) → k < i + 1
         → AreChildren rs (row_name rs (row_at rows' k)) (children_at rows' bounds' k)
-    children_now k l = go (now k l)
-      where
-        go : (k < i) ⊎ (k ≡ i) → AreChildren rs (row_name rs (row_at rows' k)) (children_at rows' bounds' k)
-        go (inl m) = grind (arith, bound, whole, span_front, keep)
-        go (inr m) = grind (arith, bound, last_bound, take_all, length-drop, keep)
+    children_now k l =
+        grind (arith, now k l, bound, last_bound, whole, span_front, keep, take_all, length-drop)
 
     pub advance : Growing o rs rows' bounds' (i + 1)
     advance = record {

@@ -60,10 +60,8 @@ ended_last (o ∷ l) us = refl
 ended_names : (n m : DomainName) → folded n ≡ n → folded m ≡ m
     → slice_cmp nat_cmp (flat_map ended n) (flat_map ended m) ≡ slice_cmp label_order n m
 ended_names [] [] p q = refl
-ended_names [] (k ∷ m) p q =
-    ap (slice_cmp nat_cmp []) (flat_map-cons ended k m) ∙ ended_first k (flat_map ended m)
-ended_names (l ∷ n) [] p q =
-    ap (λ xs. slice_cmp nat_cmp xs []) (flat_map-cons ended l n) ∙ ended_last l (flat_map ended n)
+ended_names [] (k ∷ m) p q = simp (slice_cmp, nat_cmp, flat_map-cons, ended, ended_first, flat_map)
+ended_names (l ∷ n) [] p q = simp (slice_cmp, nat_cmp, flat_map-cons, ended, ended_last, flat_map)
 ended_names (l ∷ n) (k ∷ m) p q =
     grind (
       arith,
@@ -76,7 +74,7 @@ ended_names (l ∷ n) (k ∷ m) p q =
       get_or,
       ordering_then,
       label_order,
-      (ended_names n m (ap (drop 1) p) (ap (drop 1) q)),
+      ended_names n m (ap (drop 1) p) (ap (drop 1) q),
     )
 
 pub key_flat : (n : DomainName) → name_key n ≡ flat_map ended (reverse n)

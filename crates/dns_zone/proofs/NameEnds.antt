@@ -65,9 +65,20 @@ end_is (l ∷ n) m low lower =
         → names_equal (ending (length (wire m)) n) m ≡ at_or_below n m
         → names_equal (if t then l ∷ n else ending (length (wire m)) n) m ≡ at_or_below (l ∷ n) m
     go true e r =
-        let short : length (wire n) < length (wire m) = ltb-true _ _ e in
-        let other : at_or_below n m ≡ false =
-        false_from_ne_true _ (λ at. absurd (omega (arith, at_or_below-length-wire n m at))) in
-        sym (at_or_below-cons l n m ∙ ap (λ t. same (l ∷ n) m || t) other
-        ∙ or-false (same (l ∷ n) m) ∙ ap₂ names_equal low lower)
+        grind (
+          arith,
+          wire,
+          n,
+          m,
+          ltb-true,
+          false_from_ne_true,
+          at_or_below-length-wire,
+          at_or_below-cons,
+          l,
+          same,
+          ap₂,
+          names_equal,
+          low,
+          lower,
+        )
     go false e r = grind (arith, ltb-false, at_or_below-long, length-append)

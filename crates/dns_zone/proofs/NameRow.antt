@@ -12,8 +12,7 @@ use Rattle.dns_spec.proofs.General.Pairs.{Pairs, unmoved, pairs_drop}
 use Rattle.dns_spec.proofs.General.Fronts.{parted_take, both_fronts, front}
 
 one_of : {X : Type 0} (n : ℕ) (x : X) (xs : List X) → 0 < n → take 1 (take n (x ∷ xs)) ≡ x ∷ []
-one_of zero x xs h = absurd (omega (arith, h))
-one_of (suc n) x xs h = refl
+one_of n x xs h = grind (arith, cases_lt)
 
 module _ (rs : List ResourceRecord) (canonical : IsCanonical rs) (m : DomainName) (first : ℕ)
     (fits : first < length rs) (here : at_or_below (get_or (owners rs) first []) m ≡ true) where
@@ -47,9 +46,7 @@ module _ (rs : List ResourceRecord) (canonical : IsCanonical rs) (m : DomainName
       (under_parted m r (drop (first + 1) rs) in_order above)
 
   own_front : IsPartitionedBy (is_at m) (drop first rs)
-  own_front =
-      subst (IsPartitionedBy (is_at m)) (sym rest_is)
-      (at_in_front m r (drop (first + 1) rs) in_order above ordered_rest)
+  own_front = grind (arith, is_at, m, rest_is, at_in_front, r, first, in_order, above, ordered_rest)
 
   -- the first owner ends with the name's octets
   pub ends : folded m ≡ m → (owner : DomainName) → owner ≡ get_or (owners rs) first []
@@ -72,9 +69,7 @@ module _ (rs : List ResourceRecord) (canonical : IsCanonical rs) (m : DomainName
 
     all_from : under m rs ≡ under m (drop first rs)
     all_from =
-        ap (under m) (sym (take-append-drop first rs))
-        ∙ filter-append (is_under m) (take first rs) (drop first rs)
-        ∙ ap (λ xs. xs ++ under m (drop first rs)) before
+        grind (arith, before, take-append-drop first rs, filter-append (is_under m) (take first rs) (drop first rs))
 
     own_within : (xs : List ResourceRecord) → filter (is_at m) (under m xs) ≡ filter (is_at m) xs
     own_within xs = filter_within (is_under m) (is_at m) xs (λ s e. itself-under s.owner m e)
@@ -99,9 +94,7 @@ module _ (rs : List ResourceRecord) (canonical : IsCanonical rs) (m : DomainName
           (parted_take (is_at m) (drop first rs) (end - first) own_front)).0
 
       first_is : take 1 others ≡ r ∷ []
-      first_is =
-          ap (λ ys. take 1 (take (end - first) ys)) rest_is
-          ∙ one_of (end - first) r (drop (first + 1) rs) (omega (arith, some))
+      first_is = grind (arith, end, first, rest_is, one_of, r, some)
 
       known_fits : known ≤ length others
       known_fits = grind (arith, own_fits, known_is, first_is, length-take)
@@ -118,12 +111,9 @@ module _ (rs : List ResourceRecord) (canonical : IsCanonical rs) (m : DomainName
       known_front : (0 < own) ⊎ (own ≤ 0)
           → AllByRecursion (λ s. is_under m s ≡ true) (take known others)
       known_front (inl l) =
-          let same : known ≡ own = grind (arith, known_is) in
-          subst (λ k. AllByRecursion (λ s. is_under m s ≡ true) (take k others)) (sym same) front_is
+          let same : known ≡ own = grind (arith, known_is) in rw same front_is
       known_front (inr l) =
-          let same : known ≡ 1 = grind (arith, known_is) in
-          subst (λ k. AllByRecursion (λ s. is_under m s ≡ true) (take k others)) (sym same)
-          (subst (AllByRecursion (λ s. is_under m s ≡ true)) (sym first_is) (search (rules, above)))
+          let same : known ≡ 1 = grind (arith, known_is) in rw (same, first_is) (search (rules, above))
 
       from_first : take (known + count) (drop first rs) ≡ under m (drop first rs)
       from_first =

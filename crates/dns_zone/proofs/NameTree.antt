@@ -86,19 +86,10 @@ list_between (x ∷ xs) (y ∷ ys) zs p q = go (label_order x y) refl p q (list_
         (slice_cmp label_order xs ys) ≡ false → is_gt (slice_cmp label_order ys (xs ++ zs)) ≡ false
         → (ws : List Octets) × (ys ≡ xs ++ ws)) → (ws : List Octets) × (y ∷ ys ≡ x ∷ (xs ++ ws))
     go Less e a b f =
-        let back : label_order y x ≡ Greater =
-        nat_list_cmp_total.antisymm y x ∙ ap ordering_reverse e in
-        absurd (true≢false
-        (sym (ap (λ c. is_gt (ordering_then c (slice_cmp label_order ys (xs ++ zs)))) back)
-        ∙ b))
+        grind (arith, label_order, nat_list_cmp_total, true≢false, ordering_then, slice_cmp)
     go Greater e a b f = absurd (true≢false a)
     go Equal e a b f =
-        let back : label_order y x ≡ Equal =
-        nat_list_cmp_total.antisymm y x ∙ ap ordering_reverse e in
-        let rest =
-        f a (sym (ap (λ c. is_gt (ordering_then c (slice_cmp label_order ys (xs ++ zs)))) back)
-        ∙ b) in
-        (rest.0, ap₂ (λ w ws. w ∷ ws) (sym (label-tie x y e)) rest.1)
+        grind (arith, label_order, nat_list_cmp_total, ordering_then, slice_cmp, ap₂, label-tie)
 
 turned_end : (n a p : DomainName) → folded n ≡ p ++ folded a
     → reverse (folded n) ≡ reverse (folded a) ++ reverse p

@@ -63,8 +63,7 @@ cut-by_set z n h = ap (λ b. b && owns z n type_ns) h ∙ sym (set-owned z n typ
 
 -- names that exist
 pub exists-folded : (z : ZoneContents) (n : DomainName) → exists z (folded n) ≡ exists z n
-exists-folded z n =
-    exists-lower z (folded n) n (folded_folded n) (length-map n (map to_ascii_lowercase))
+exists-folded z n = simp (exists-lower, folded, folded_folded, length-map, to_ascii_lowercase)
 
 pub exists-up : (z : ZoneContents) (l : Octets) (n : DomainName)
     → exists z n ≡ false → exists z (l ∷ n) ≡ false
@@ -81,13 +80,11 @@ first_suffix z (l ∷ n) = refl
 
 pub encloser-here : (z : ZoneContents) (l : Octets) (n : DomainName)
     → exists z n ≡ true → closest_encloser z (l ∷ n) ≡ Some (folded n)
-encloser-here z l n e = first_suffix z (folded n) ∙ ap (λ b. cond b (Some (folded n))
-    (find (exists z) (without_first (suffixes (folded n))))) (exists-folded z n ∙ e)
+encloser-here z l n e = grind (arith, first_suffix, folded, Some, without_first, exists-folded)
 
 pub encloser-above : (z : ZoneContents) (l : Octets) (n : DomainName)
     → exists z n ≡ false → closest_encloser z (l ∷ n) ≡ closest_encloser z n
-encloser-above z l n e = first_suffix z (folded n) ∙ ap (λ b. cond b (Some (folded n))
-    (find (exists z) (without_first (suffixes (folded n))))) (exists-folded z n ∙ e)
+encloser-above z l n e = grind (arith, first_suffix, folded, Some, without_first, exists-folded)
 
 -- no cut is at the origin or above it
 short_cut : (z : ZoneContents) (n : DomainName) → length n ≤ length z.origin → is_cut z n ≡ false

@@ -13,8 +13,7 @@ use Rattle.dns_spec.proofs.General.Tests.{none_pass}
 -- a name owns a record of a type if and only if one of its records has the type
 pub owned_by : (z : ZoneContents) (n : DomainName) (t : ℕ) (own : List ResourceRecord)
     → own ≡ at z n → list_any (λ (r : ResourceRecord). r.rtype == t) own ≡ owns z n t
-owned_by z n t own e =
-    ap (list_any (λ (r : ResourceRecord). r.rtype == t)) e ∙ own_owns z n t
+owned_by z n t own e = grind (arith, list_any, own_owns)
 
 none_reported : (z : ZoneContents) (n : DomainName)
     → AllByRecursion (λ (d : ℕ × Check). d.1 z n ≡ false) checks → reported_at z n ≡ []
@@ -69,9 +68,7 @@ module _ (z : ZoneContents) (n : DomainName) (own : List ResourceRecord) (is : I
         (target r.rtype r.rdata) false) e) each)
 
     few : (test : ℕ → Bool) (k : ℕ) → length own ≤ k → nat_lt k (number_of test own) ≡ false
-    few test k h =
-        let short = filter_short (λ (r : ResourceRecord). test r.rtype) own in
-        le-ltb _ _ (omega arith)
+    few test k h = grind (arith, filter_short, own, le-ltb)
 
     pub plain : is_origin z n ≡ false → at_or_below n z.origin ≡ true
         → list_all (λ (r : ResourceRecord). is_plain_type (length own) r.rtype) own ≡ true
@@ -117,8 +114,13 @@ module _ (z : ZoneContents) (n : DomainName) (own : List ResourceRecord) (is : I
             let none = filter_none (λ (r : ResourceRecord). r.rtype == type_cname) own no_aliases in
             grind (arith, none_owned type_cname no_aliases, is.own_is, none)
         alone (inr one) =
-            grind (arith, own_owns z n type_cname, is.own_is, one_type type_cname own one,
-            few (λ t. t == type_cname) 1 one)
+            grind (
+              arith,
+              own_owns z n type_cname,
+              is.own_is,
+              one_type type_cname own one,
+              few (λ t. t == type_cname) 1 one,
+            )
 
         large : large_set z n ≡ false
         large =

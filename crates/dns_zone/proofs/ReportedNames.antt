@@ -33,9 +33,7 @@ module _ (z : ZoneContents) (i : ℕ) where
   pub more_reported : (n : DomainName) → numbered_owner z i ≡ n → (old new : List CheckFault)
       → new ≡ old ++ failed_from i 1 (map (λ (c : ℕ × Check). c.1 z n) checks)
       → faults_of z new ≡ faults_of z old ++ reported_at z n
-  more_reported n e old new f =
-      ap (faults_of z) f ∙ map-append (fault_of z) old _
-      ∙ ap (λ fs. faults_of z old ++ fs) (failed_reported n e)
+  more_reported n e old new f = grind (arith, z, map-append, fault_of, failed_reported)
 
 each_once : (P : DomainName → Type 0) (rs : List ResourceRecord)
     → AllByRecursion (λ r. P (folded r.owner)) rs → AllByRecursion P (owners_once rs)
@@ -64,8 +62,12 @@ pub once_rise : (rs : List ResourceRecord)
     → Pairs OwnerNotAfter rs → Rises name_order (owners_once rs)
 once_rise [] h = tt
 once_rise (r ∷ rs) h =
-    grind (arith, once_rise rs h.1, greater_after r rs h,
-    each_once (λ n. name_order (folded r.owner) n ≡ Less) rs)
+    grind (
+      arith,
+      once_rise rs h.1,
+      greater_after r rs h,
+      each_once (λ n. name_order (folded r.owner) n ≡ Less) rs,
+    )
 
 -- the owners of records
 abbrev pub owners : List ResourceRecord → List DomainName
@@ -115,8 +117,12 @@ module _ (z : ZoneContents) where
 
   pub checked_among : (a : DomainName) → Among a (checked_names z) → IsName a
   checked_among a m =
-      grind (arith, among_once a z.records, distinct_among same a names,
-      sort_among name_order a (distinct same names))
+      grind (
+        arith,
+        among_once a z.records,
+        distinct_among same a names,
+        sort_among name_order a (distinct same names),
+      )
 
   pub among_checked : (a : DomainName) → IsName a → Among a (checked_names z)
   among_checked a m =

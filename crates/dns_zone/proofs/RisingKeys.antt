@@ -61,8 +61,7 @@ module _ (R : SortKey → SortKey → Ordering) (ps : List SortKey) (n at : ℕ)
       one = in_mid to (omega arith) l ∙ grind (arith, (rotated.0 0 no_sort_key), get_or-take, get_or-drop, mid_len)
 
       back : (k : ℕ) → to < k → k ≤ n → from zs k ≡ from ps (k - 1)
-      back k h m = in_mid k (omega (arith, h)) m
-          ∙ grind (arith, (rotated.1 (k - to) no_sort_key), get_or-take, get_or-drop, mid_len)
+      back k h m = grind (arith, in_mid, to, get_or-take, get_or-drop, mid_len)
 
 -- sort keys that rise are sorted, and distinct
 module _ (R : SortKey → SortKey → Ordering) (total : IsTotalOrder R) where

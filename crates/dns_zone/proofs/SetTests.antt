@@ -111,8 +111,17 @@ run_after t zero [] e h = refl
 run_after t (suc k) [] e h = le-ltb (suc k) 0 (omega arith)
 run_after t zero (s ∷ rs) e h = grind (arith, lt-ltb, other_than, eqb-false, no_more, above_all)
 run_after t (suc k) (s ∷ rs) e h =
-    grind (arith, lt_suc, run_after t k rs e.1 h.1, other_than, eqb-false, above_all, no_more, le-ltb,
-    none_after)
+    grind (
+      arith,
+      lt_suc,
+      run_after t k rs e.1 h.1,
+      other_than,
+      eqb-false,
+      above_all,
+      no_more,
+      le-ltb,
+      none_after,
+    )
 
 first_run : (k : ℕ) (r : ResourceRecord) (rs : List ResourceRecord)
     → Pairs TypeUpTo (r ∷ rs) → is_large k (r ∷ rs) r ≡ begins_with_type r.rtype (drop k rs)
@@ -141,8 +150,7 @@ in_runs k (r ∷ rs) =
         → list_any same_type (zip rs (drop (suc k) rs)) ≡ repeats_after k rs
         → list_any same_type (zip (r ∷ rs) qs) ≡ (begins_with_type r.rtype qs || repeats_after k rs)
     go [] d h = sym (sym h ∙ ap (λ xs. list_any same_type (zip rs xs)) d ∙ no_pairs rs)
-    go (q ∷ qs) d h = ap₂ ◌||◌ (eqb_turned r.rtype q.rtype)
-        (ap (λ xs. list_any same_type (zip rs xs)) (sym d) ∙ h)
+    go (q ∷ qs) d h = grind (arith, ap₂, eqb_turned, r, list_any)
 
 pub large-in_runs : (k : ℕ) (rs : List ResourceRecord) → Pairs TypeUpTo rs
     → list_any same_type (zip rs (drop (suc k) rs)) ≡ list_any (is_large k rs) rs

@@ -27,8 +27,7 @@ prefix_less zero a b h = grind arith
 prefix_less (suc n) [] [] h = grind arith
 prefix_less (suc n) [] (y ∷ b) h = refl
 prefix_less (suc n) (x ∷ a) [] h = grind arith
-prefix_less (suc n) (x ∷ a) (y ∷ b) h =
-    grind (arith, slice_cmp, ordering_then, (prefix_less n a b))
+prefix_less (suc n) (x ∷ a) (y ∷ b) h = grind (arith, slice_cmp, ordering_then, prefix_less n a b)
 
 prefix_tied : (n : ℕ) (a b : Octets) → slice_cmp nat_cmp (take n a) (take n b) ≡ Equal
     → slice_cmp nat_cmp (drop n a) (drop n b) ≡ slice_cmp nat_cmp a b
@@ -36,8 +35,7 @@ prefix_tied zero a b h = refl
 prefix_tied (suc n) [] [] h = refl
 prefix_tied (suc n) [] (y ∷ b) h = grind arith
 prefix_tied (suc n) (x ∷ a) [] h = grind arith
-prefix_tied (suc n) (x ∷ a) (y ∷ b) h =
-    grind (arith, slice_cmp, ordering_then, (prefix_tied n a b))
+prefix_tied (suc n) (x ∷ a) (y ∷ b) h = grind (arith, slice_cmp, ordering_then, prefix_tied n a b)
 
 pub take_min : (n : ℕ) (xs : Octets) → take (min n (length xs)) xs ≡ take n xs
 take_min n xs = grind (arith, cases_lt, min-eq_left, min-eq_right, take_all)
@@ -63,8 +61,7 @@ first_decides f g c d n e = grind (arith, cases_order, nat_cmp_is)
 
 alike : (f g i j : ℕ) (c : Ordering) → f ≡ g → i ≡ j
     → ordering_then (nat_cmp f g) (ordering_then (nat_cmp i j) c) ≡ c
-alike f g i j c l m =
-    same_first f g (ordering_then (nat_cmp i j) c) l ∙ same_first i j c m
+alike f g i j c l m = grind (arith, same_first, ordering_then, nat_cmp)
 
 pub either : (a b : ℕ) → (a ≡ b) ⊎ (a ≡ b → ⊥)
 either a b = grind (arith, inl, inr, cases_order)
@@ -75,9 +72,7 @@ pub shared_key : (keys : Octets) (rs : List ResourceRecord) (first : ResourceRec
     → length (wire (placed rs first p).owner) ≡ length (wire (placed rs first q).owner)
     → Equal ≡ slice_cmp nat_cmp (sorted_key keys rs first p) (sorted_key keys rs first q)
 shared_key keys rs first p q e f =
-    sym (ap (λ k. slice_cmp nat_cmp k (sorted_key keys rs first q))
-    (ap₂ (λ s n. take (n - 1) (drop s keys)) e f)
-    ∙ tied_itself nat_list_cmp_total (sorted_key keys rs first q))
+    grind (arith, slice_cmp, nat_cmp, ap₂, tied_itself, nat_list_cmp_total)
 
 module _ (o : Octets) where
   abbrev side : Octets → Ordering
@@ -125,13 +120,11 @@ module _ (o : Octets) where
         tied_other = nat_list_cmp_total.antisymm o (take (length o) b) ∙ ap ordering_reverse k
 
         tied : slice_cmp nat_cmp (drop (length o) a) (drop (length o) b) ≡ slice_cmp nat_cmp a b
-        tied = prefix_tied (length o) a b (nat_list_cmp_total.congr (take (length o) a) o
-            (take (length o) b) h ∙ tied_other)
+        tied = grind (arith, prefix_tied, o, a, b, nat_list_cmp_total, h, tied_other)
 
         go : (f ≡ g) ⊎ (f ≡ g → ⊥) → (i ≡ j) ⊎ (i ≡ j → ⊥)
             → by_numbers a b f i g j ≡ slice_cmp nat_cmp a b
-        go (inr n) e =
-            first_decides f g _ _ n (front_order (p.equal h).0 (q.equal k).0 n ∙ tied)
+        go (inr n) e = grind (arith, first_decides, f, g, front_order, p, h, q, k, tied)
         go (inl e) (inl m) = alike f g i j (slice_cmp nat_cmp a b) e m
         go (inl e) (inr n) =
             same_first f g _ e
@@ -164,8 +157,13 @@ module _ (o : Octets) where
           let less : fronts_cmp b a ≡ Less =
           nat_list_cmp_total.antisymm (take (length o) b) (take (length o) a)
           ∙ ap ordering_reverse e in
-          grind (arith, prefix_less (length o) b a, nat_list_cmp_total.antisymm a b, falling f g i j,
-          not_greater b a g j f i q p less)
+          grind (
+            arith,
+            prefix_less (length o) b a,
+            nat_list_cmp_total.antisymm a b,
+            falling f g i j,
+            not_greater b a g j f i q p less,
+          )
 
 -- sort keys are in the order of their records
 module _ (origin keys : Octets) (rs : List ResourceRecord) (first : ResourceRecord) where

@@ -59,8 +59,7 @@ module _ (origin keys : Octets) (rs : List ResourceRecord) (first : ResourceReco
       → AllByRecursion (IsSortKey origin keys rs) qs
       → dedup_from (same_sort_key rs first) p qs ≡ dedup_from (eq_by_cmp R) p qs
   kept_alike p [] h e = refl
-  kept_alike p (q ∷ qs) h e =
-      grind (arith, same q p e.0 h, kept_alike p qs h e.1, kept_alike q qs e.0 e.1)
+  kept_alike p (q ∷ qs) h e = grind (arith, same, kept_alike p qs h e.1, kept_alike q qs e.0 e.1)
 
   rises : (ps : List SortKey) → AllByRecursion (IsSortKey origin keys rs) ps
       → IsStrictlySortedBy R ps → Rises record_order (map f ps)

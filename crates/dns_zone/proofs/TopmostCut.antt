@@ -22,9 +22,7 @@ module _ (z : ZoneContents) where
       (c : DomainName) × (folded c ≡ c) × (is_cut z c ≡ true) × (at_or_below n c ≡ true)
 
   cut_found : (n : DomainName) → folded n ≡ n → at_or_below_cut z n ≡ true → HasCut n
-  cut_found [] low h =
-      let here : is_cut z [] ≡ true = grind (arith, or_cases, false≢true) in
-      ([], low, here, itself [])
+  cut_found [] low h = grind (arith, is_cut, z, or_cases, false≢true, itself)
   cut_found (l ∷ n) low h =
       go (or_cases (is_cut z (l ∷ n)) (at_or_below_cut z n) h) (cut_found n (ap (drop 1) low))
     where

@@ -18,9 +18,7 @@ key_size xs w = size xs w ∙ sym (key_length (labels_of xs))
 pub long : (octets rest label : Octets) → IsWireForm octets → IsWireForm rest
     → labels_of octets ≡ label ∷ labels_of rest → length octets ≡ length label + 1 + length rest
 long octets rest label form after first =
-    let whole : length (name_key (labels_of octets)) ≡ length (name_key (labels_of rest))
-    + (length label + 1) = grind (arith, length-append, length-map) in
-    omega (arith, key_size octets form, key_size rest after, whole)
+    grind (arith, name_key, length-append, length-map, key_size)
 
 none : (n : ℕ) → ◌≡◌ {A = Octets} (take n []) []
 none zero = refl
@@ -31,19 +29,15 @@ pub alike_front : (xs ys : Octets) (n : ℕ) → BeginAlike xs ys → BeginAlike
 alike_front xs ys zero h = none (length ys)
 alike_front [] ys (suc n) h = h
 alike_front (x ∷ xs) [] (suc n) h = refl
-alike_front (x ∷ xs) (y ∷ ys) (suc n) h =
-    grind (arith, get_or, (alike_front xs ys n (ap (drop 1) h)))
+alike_front (x ∷ xs) (y ∷ ys) (suc n) h = grind (arith, get_or, alike_front xs ys n (ap (drop 1) h))
 
 alike_shorter : (xs ys us : Octets) → BeginAlike xs (ys ++ us) → BeginAlike xs ys
 alike_shorter xs [] us h = sym (none (length xs))
 alike_shorter [] (y ∷ ys) us h = refl
-alike_shorter (x ∷ xs) (y ∷ ys) us h =
-    grind (arith, get_or, (alike_shorter xs ys us (ap (drop 1) h)))
+alike_shorter (x ∷ xs) (y ∷ ys) us h = grind (arith, get_or, alike_shorter xs ys us (ap (drop 1) h))
 
 pub alike_whole : (xs ys : Octets) → length xs ≡ length ys → BeginAlike xs ys → xs ≡ ys
-alike_whole xs ys e h =
-    sym (take_all (length ys) xs (omega (arith, e))) ∙ h
-    ∙ take_all (length xs) ys (omega (arith, e))
+alike_whole xs ys e h = grind (arith, take_all)
 
 pub alike_itself : (xs : Octets) (n : ℕ) → BeginAlike xs (take n xs)
 alike_itself xs zero = sym (none (length xs))
@@ -62,7 +56,4 @@ alike_ending least (l ∷ n) key h =
 pub known_whole : (octets key : Octets) (n : DomainName) → IsWireForm octets → labels_of octets ≡ n
     → length octets ≡ length key + 1 → BeginAlike key (name_key n)
     → key ≡ name_key (labels_of octets)
-known_whole octets key n form is room alike =
-    let size = key_size octets form in
-    alike_whole key (name_key (labels_of octets)) (omega (arith, size, room))
-    (subst (λ m. BeginAlike key (name_key m)) (sym is) alike)
+known_whole octets key n form is room alike = grind (arith, key_size, alike_whole, name_key)

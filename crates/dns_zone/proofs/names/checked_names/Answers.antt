@@ -100,9 +100,7 @@ module _ (c : In_ok-push) where
 
   names : map (owner_of z) (c.owners.names.items ++ added ∷ [])
       ≡ map (owner_of z) c.owners.names.items ++ n ∷ []
-  names =
-      map_push (owner_of z) c.owners.names.items added
-      ∙ ap (λ (m : DomainName). map (owner_of z) c.owners.names.items ++ m ∷ []) name_there
+  names = grind (arith, map_push, z, c, name_there)
 
   topmost : IsTopmost z n c.cut_of-cut.result
   topmost =
@@ -135,16 +133,28 @@ owners-preserved c =
     let size = both c in
     let old = c.owners.names.items in
     record {
-      all = grind (arith, items, whole c,
-          all_added (z c) old (added c) (n c) (owners_once (others c)) (name_there c));
-      each = grind (arith, items,
-          each_added (z c) old (added c) (n c) c.owners.invariant.each (name_there c) (checked c));
+      all = grind (
+        arith,
+        items,
+        whole c,
+        all_added (z c) old (added c) (n c) (owners_once (others c)) (name_there c),
+      );
+      each = grind (
+        arith,
+        items,
+        each_added (z c) old (added c) (n c) c.owners.invariant.each (name_there c) (checked c),
+      );
       whole = (stepped c).has_owners;
       part = c.split_at.ensures.back ∙ ap (drop (1 + c.count_in_front.result))
           c.owners.invariant.part ∙ drop-drop (1 + c.count_in_front.result)
           c.owners.first c.args.records.now ∙ ap (λ k. drop (c.owners.first + k) c.args.records.now)
           (sym c.split_at.ensures.front_len);
       count = omega (arith, count, size);
-      last = grind (arith, items, names c, added_last (z c) c.requires.ordered (map (owner_of (z c)) old)
-          (owners_once (others c)) (n c) (whole c) c.owner-owner.ensures.lower _ _ (key c) (topmost c));
+      last = grind (
+        arith,
+        items,
+        names c,
+        added_last (z c) c.requires.ordered (map (owner_of (z c)) old)
+            (owners_once (others c)) (n c) (whole c) c.owner-owner.ensures.lower _ _ (key c) (topmost c),
+      );
     }

@@ -43,8 +43,14 @@ module _ (c : After-shortest_end-name) where
   none_after =
       let past = none_past (is_under (row_name rs row)) rs row.first row.end
       (omega (arith, c.requires.row.more)) c.requires.row.below in
-      grind (arith, none_under c.shortest_end-name.result (row_name rs row), child.labels, row_is, past,
-      cons_under child.label (row_name rs row))
+      grind (
+        arith,
+        none_under c.shortest_end-name.result (row_name rs row),
+        child.labels,
+        row_is,
+        past,
+        cons_under child.label (row_name rs row),
+      )
 
 pub children-init : goal.children-init
 children-init c = search (rules, same_row, start)

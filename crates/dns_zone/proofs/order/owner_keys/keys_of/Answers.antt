@@ -72,8 +72,14 @@ at_pushed : (ps : List SortKey) (p : SortKey) → p.at ≡ length ps
     → ((i : ℕ) (d : SortKey) → i < length ps → (get_or ps i d).at ≡ i)
     → (i : ℕ) (d : SortKey) → i < length (ps ++ p ∷ []) → (get_or (ps ++ p ∷ []) i d).at ≡ i
 at_pushed ps p e h i d l =
-    grind (arith, cases_lt i (length ps), get_or_append_left ps (p ∷ []) d i, h i d,
-    get_or-append_seam ps p [] d, length-append ps (p ∷ []))
+    grind (
+      arith,
+      cases_lt i (length ps),
+      get_or_append_left ps (p ∷ []) d i,
+      h i d,
+      get_or-append_seam ps p [] d,
+      length-append ps (p ∷ []),
+    )
 
 pub records-preserved : goal.records-preserved
 records-preserved c =

@@ -15,8 +15,11 @@ moved-preserved c = λ end h l.
 
 pub moved-smaller : goal.moved-smaller
 moved-smaller c =
-    grind (arith, follows_on _ _ _ _ _ _ c.sort_keys.invariant c.sort_keys-test.true c.moved.invariant
-    c.moved-test.true)
+    grind (
+      arith,
+      follows_on _ _ _ _ _ _ c.sort_keys.invariant c.sort_keys-test.true c.moved.invariant
+          c.moved-test.true,
+    )
 
 pub swap-requires-clause-j_in_bounds : goal.swap-requires-clause-j_in_bounds
 swap-requires-clause-j_in_bounds c =
