@@ -1,5 +1,5 @@
 -- Moving records to the indexes of their sort keys.
-use Rattle.dns_zone.proofs.Common.{◌≡◌, ℕ, zero, suc, ◌+◌, ◌<◌, ◌≤◌, ◌⊎◌, inl, inr, List, length, take, map, get_or, sym, ap, ◌∙◌, arith, length-map, length-take, get_or-map, get_or-take, min-eq_left, refl, subst, All, cond, eqb, eq-eqb, ne_eqb, SwappedAt, ResourceRecord, AreApart, no_record, placed, SortKey}
+use Rattle.dns_zone.proofs.Common.{◌≡◌, ℕ, ◌+◌, ◌<◌, ◌≤◌, ◌⊎◌, inl, inr, List, length, take, map, get_or, sym, ap, ◌∙◌, arith, length-map, length-take, get_or-map, get_or-take, min-eq_left, refl, All, cond, eqb, eq-eqb, ne_eqb, SwappedAt, ResourceRecord, AreApart, no_record, placed, SortKey}
 use Rattle.dns_zone.proofs.SortKeyOrder.{either}
 use Rattle.dns_zone.specs.SortKeyForm.{no_sort_key}
 use Rattle.std.proofs.lemmas.List.{ext_get_or}

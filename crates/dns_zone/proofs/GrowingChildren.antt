@@ -1,5 +1,5 @@
 -- The rows of a name's children, added one by one.
-use Rattle.dns_zone.proofs.Common.{AddsChildren, Among, Bool, DomainName, AllByRecursion, Equal, IsCanonical, IsChild, IsRow, Less, List, Octets, Ordering, ResourceRecord, Rises, Row, [], ap, append-nil, append_assoc, ap₂, arith, at_or_below, drop, drop-drop, drop_at, drop_more, each_at, each_weaker, false, false_from_ne_true, false≢true, filter, filter-append, filter_each, filter_test, first_of, folded, folded_folded, get_or, get_or-map, inl, inr, is_gt, label_order, labels_of_spelled, length, length-append, list_any, list_any-append, map, map-append, names_equal, names_equal-decides, or_cases, or_right, owners, refl, row_label, row_name, row_octets, same, same-length, span, subst, suc, sym, take, take-append-drop, take_at, to_ascii_lowercase, true, under, ℕ, ◌++◌, ◌+◌, ◌-◌, ◌<◌, ◌∙◌, ◌∷◌, ◌≡◌, ◌≤◌, ◌⊎◌}
+use Rattle.dns_zone.proofs.Common.{AddsChildren, Among, Bool, DomainName, AllByRecursion, Equal, IsCanonical, IsChild, IsRow, Less, List, Octets, Ordering, ResourceRecord, Rises, Row, [], ap, append-nil, append_assoc, ap₂, arith, at_or_below, drop, drop-drop, drop_at, drop_more, each_at, each_weaker, false, false_from_ne_true, false≢true, filter, filter-append, filter_each, filter_test, first_of, folded, folded_folded, get_or, get_or-map, inl, is_gt, label_order, labels_of_spelled, length, length-append, list_any, list_any-append, map, map-append, names_equal, names_equal-decides, or_cases, or_right, owners, refl, row_label, row_name, row_octets, same, same-length, span, subst, suc, sym, take, take-append-drop, take_at, to_ascii_lowercase, true, under, ℕ, ◌++◌, ◌+◌, ◌-◌, ◌<◌, ◌∙◌, ◌∷◌, ◌≡◌, ◌≤◌}
 use Rattle.dns_zone.proofs.NameTree.{label-tie}
 use Rattle.dns_zone.proofs.AtName.{OwnerNotAfter, owners_in_order, is_at}
 use Rattle.dns_zone.proofs.Existing.{under-lower}

@@ -1,5 +1,5 @@
 -- Collecting the names to be checked: the owners of a zone, and the origin.
-use Rattle.dns_zone.proofs.Common.{append-nil, ◌≡◌, ℕ, zero, suc, true, false, ◌⊎◌, inl, inr, List, [], ◌∷◌, ◌++◌, map, take, drop, refl, sym, ap, ◌∙◌, subst, arith, get_or, is_gt, Ordering, Less, Equal, Greater, true≢false, tied_itself, Bor, IsPartitionedBy, ordering_reverse, Octets, DomainName, folded, at_or_below, name_order, ResourceRecord, ZoneContents, name_tie, name_order_total, lower_equal, append_assoc, map_push, AllByRecursion, Among, Rises, each_at, each_weaker, name_key, owner_of, is_upto, IsTopmost, IsChecked, AreChecked, AreOwners, ComesNext, IsOwner, owners_once, AreOrdered, IsFront, CheckedName}
+use Rattle.dns_zone.proofs.Common.{append-nil, ◌≡◌, ℕ, zero, suc, false, ◌⊎◌, inl, inr, List, [], ◌∷◌, ◌++◌, map, take, drop, refl, sym, ap, ◌∙◌, subst, arith, get_or, is_gt, Less, true≢false, tied_itself, Bor, IsPartitionedBy, Octets, DomainName, folded, name_order, ResourceRecord, ZoneContents, name_tie, name_order_total, lower_equal, append_assoc, map_push, AllByRecursion, Among, Rises, each_at, each_weaker, name_key, owner_of, is_upto, IsTopmost, IsChecked, AreChecked, AreOwners, ComesNext, IsOwner, owners_once, AreOrdered, IsFront, CheckedName}
 use Rattle.dns_zone.proofs.AtName.{owners_in_order}
 use Rattle.dns_zone.proofs.CheckedNames.{itself_upto, equal_upto, key_equal, cut_among, none_at, upto_parted, upto_among, after_each, in_order, last_checked, last_upto}
 use Rattle.dns_zone.proofs.NameTree.{under-from, under-order}

@@ -1,5 +1,5 @@
 -- The shortest suffix of a name that has at least a given number of octets.
-use Rattle.dns_zone.proofs.Common.{◌≡◌, ℕ, suc, ◌+◌, ◌-◌, ◌<◌, ◌≤◌, Bool, true, false, nat_lt, ◌||◌, if◌then◌else◌, [], ◌∷◌, length, drop, get_or, refl, sym, ap, ap₂, ◌∙◌, arith, length-append, length-drop, false_from_ne_true, ltb-true, ltb-false, lt-ltb, or-false, drop_at, drop-drop, get_or-drop, Octets, DomainName, wire, is_name, folded, same, at_or_below, names_equal, at_or_below-cons, at_or_below-short, at_or_below-long, at_or_below-length-wire, is_name-tail, ending}
+use Rattle.dns_zone.proofs.Common.{◌≡◌, ℕ, suc, ◌+◌, ◌-◌, ◌<◌, ◌≤◌, Bool, true, false, nat_lt, if◌then◌else◌, [], ◌∷◌, length, drop, get_or, refl, sym, ap, ap₂, ◌∙◌, arith, length-append, length-drop, false_from_ne_true, ltb-true, ltb-false, lt-ltb, drop_at, drop-drop, get_or-drop, Octets, DomainName, wire, is_name, folded, same, at_or_below, names_equal, at_or_below-cons, at_or_below-short, at_or_below-long, at_or_below-length-wire, is_name-tail, ending}
 use Rattle.dns_spec.proofs.DomainNames.WireNames.{wire_some}
 
 -- An invariant of skipping the labels of a name n, whose octets are xs: from index k on, xs is the

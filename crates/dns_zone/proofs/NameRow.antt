@@ -1,6 +1,6 @@
 -- The row of a name, among records in canonical order. The record at `first` is at or below the
 -- name, and no record before it is.
-use Rattle.dns_zone.proofs.Common.{AreOrdered, DomainName, AllByRecursion, IsCanonical, IsFront, IsPartitionedBy, List, ResourceRecord, [], ap, arith, at_or_below, drop, drop_more, each_weaker, false, filter, filter-append, filter_each, folded, get_or, get_or-map, is_gt, rules, length, length-drop, length-take, owners, prefix_len, prefix_len-le-length, cases_lt, inl, inr, ◌⊎◌, refl, zero, suc, record_order, record_order_total, span, subst, sym, take, take-append-drop, true, under, wire, ℕ, ◌++◌, ◌+◌, ◌-◌, ◌<◌, ◌∙◌, ◌∷◌, ◌≡◌, ◌≤◌}
+use Rattle.dns_zone.proofs.Common.{AreOrdered, DomainName, AllByRecursion, IsCanonical, IsFront, IsPartitionedBy, List, ResourceRecord, [], ap, arith, at_or_below, drop, drop_more, each_weaker, false, filter, filter-append, filter_each, folded, get_or, get_or-map, is_gt, rules, length, length-drop, length-take, owners, prefix_len, prefix_len-le-length, cases_lt, inl, inr, ◌⊎◌, record_order, record_order_total, span, subst, sym, take, take-append-drop, true, under, wire, ℕ, ◌+◌, ◌-◌, ◌<◌, ◌∙◌, ◌∷◌, ◌≡◌, ◌≤◌}
 use Rattle.std.specs.Prelude.{max}
 use Rattle.dns_zone.proofs.NameTree.{itself-under}
 use Rattle.dns_zone.proofs.EndingNames.{ends_in}

@@ -1,5 +1,5 @@
 -- In canonical order, the names at or below a name are adjacent and follow it directly.
-use Rattle.dns_zone.proofs.Common.{◌≡◌, suc, ◌+◌, ◌-◌, ◌<◌, ◌≤◌, Bool, true, false, nat_lt, nat_le, ◌⊎◌, inl, inr, List, [], ◌∷◌, ◌++◌, map, reverse, length, take, drop, refl, sym, ap, ap₂, ◌∙◌, arith, length-append, is_eq, is_gt, nat_cmp, Ordering, Less, Equal, Greater, false≢true, true≢false, and_parts, and_from, or_cases, or_right, le-leb, leb-true, lt-ltb, false_from_ne_true, ltb-true, end_rest, nat_list_cmp_total, tied_itself, slice_cmp, lists_ties, ordering_then, ordering_reverse, to_ascii_lowercase, Octets, DomainName, folded, same, last_labels, at_or_below, below, label_order, name_order, reverse-reverse, reverse-append, take-append-drop, drop-map, length-map, append_assoc, octets_equal-decides, same_tests, same-length, at_or_below-cons, nat_ties}
+use Rattle.dns_zone.proofs.Common.{◌≡◌, suc, ◌+◌, ◌-◌, ◌<◌, ◌≤◌, Bool, true, false, nat_lt, nat_le, ◌⊎◌, inl, inr, List, [], ◌∷◌, ◌++◌, map, reverse, length, take, drop, refl, sym, ap, ap₂, ◌∙◌, arith, length-append, is_eq, is_gt, nat_cmp, Ordering, Less, Equal, Greater, false≢true, true≢false, and_parts, and_from, or_cases, or_right, le-leb, leb-true, lt-ltb, false_from_ne_true, ltb-true, end_rest, nat_list_cmp_total, tied_itself, slice_cmp, lists_ties, ordering_then, to_ascii_lowercase, Octets, DomainName, folded, same, last_labels, at_or_below, below, label_order, name_order, reverse-reverse, reverse-append, take-append-drop, drop-map, length-map, append_assoc, octets_equal-decides, same_tests, same-length, at_or_below-cons, nat_ties}
 use Rattle.dns_zone.proofs.NameOrder.{same-is, same-from}
 
 -- n ends with the labels of a

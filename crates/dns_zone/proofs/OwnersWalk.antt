@@ -1,5 +1,5 @@
 -- A walk over records of a zone in canonical order, owner by owner.
-use Rattle.dns_zone.proofs.Common.{◌≡◌, ℕ, ◌+◌, Bool, true, false, not, cond, List, [], ◌∷◌, ◌++◌, ◌<◌, length, take, drop, refl, sym, ap, ap₂, ◌∙◌, arith, subst, filter, is_gt, Less, false≢true, false_from_ne_true, length-filter_both, All-head, prefix_len, IsPartitionedBy, DomainName, folded, same, names_equal, name_order, ResourceRecord, ZoneContents, at, record_order, recursion_from_All, All-from_recursion, record_order_total, each_filter, filter_each, each_weaker, AreOrdered, IsOwner, first_owner, begins_with_owner, owners_once}
+use Rattle.dns_zone.proofs.Common.{◌≡◌, ℕ, ◌+◌, Bool, true, false, not, cond, List, [], ◌∷◌, ◌++◌, ◌<◌, length, take, drop, refl, sym, ap, ◌∙◌, arith, subst, filter, is_gt, Less, false≢true, false_from_ne_true, length-filter_both, All-head, prefix_len, IsPartitionedBy, DomainName, folded, same, names_equal, name_order, ResourceRecord, ZoneContents, at, record_order, recursion_from_All, All-from_recursion, record_order_total, each_filter, filter_each, each_weaker, AreOrdered, IsOwner, first_owner, begins_with_owner, owners_once}
 use Rattle.dns_zone.proofs.NameOrder.{same-is, same-from, same-tied}
 use Rattle.dns_zone.proofs.AtName.{is_at, OwnerNotAfter, ordered_records, owners_in_order}
 use Rattle.dns_zone.proofs.ChildRows.{at_in_front}

@@ -1,6 +1,6 @@
 -- A name whose records have plain types passes the checks for types.
 use Rattle.std.specs.Option.{option_map_or}
-use Rattle.dns_zone.proofs.Common.{◌≡◌, ℕ, ◌<◌, ◌≤◌, ◌==◌, ◌&&◌, ◌||◌, not, nat_lt, Bool, true, false, ◌⊎◌, inl, inr, List, [], ◌∷◌, map, length, refl, sym, ap, ap₂, ◌∙◌, arith, list_any, list_all, le-ltb, cases_lt, and_parts, ne_eqb, false≢true, DomainName, ResourceRecord, ZoneContents, at, at_or_below, below, owns, target, Check, checks, is_owner, ttls_differ, large_set, many_sets, AllByRecursion, each_weaker, type_soa, type_ns, type_cname, IsOwner, number_of, sets_ended, is_exchange_type, is_other_type, is_plain_type, reported_at}
+use Rattle.dns_zone.proofs.Common.{◌≡◌, ℕ, ◌<◌, ◌≤◌, ◌==◌, ◌&&◌, ◌||◌, not, nat_lt, Bool, true, false, ◌⊎◌, inl, inr, List, [], ◌∷◌, map, length, refl, sym, ap, ap₂, ◌∙◌, arith, list_any, list_all, le-ltb, cases_lt, and_parts, ne_eqb, DomainName, ResourceRecord, ZoneContents, at, at_or_below, below, owns, target, Check, checks, is_owner, ttls_differ, large_set, many_sets, AllByRecursion, each_weaker, type_soa, type_ns, type_cname, IsOwner, number_of, sets_ended, is_exchange_type, is_other_type, is_plain_type, reported_at}
 use Rattle.dns_spec.specs.Sets.{types_of}
 use Rattle.dns_spec.specs.Checks.{is_origin, count, has_target, below_cut, lacks_address, cname_and_other, many_cname, data_at_cut, first_is_asterisk, owns_such, is_address_type}
 use Rattle.dns_zone.proofs.OwnRecords.{own_owns}

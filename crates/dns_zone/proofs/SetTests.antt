@@ -1,5 +1,5 @@
 -- Adjacent records, ordered by type, decide the checks of an owner's RRsets.
-use Rattle.dns_zone.proofs.Common.{◌≡◌, ℕ, zero, suc, ◌+◌, ◌<◌, ◌≤◌, Bool, true, false, ◌&&◌, ◌||◌, not, cond, nat_lt, eqb, ◌==◌, List, [], ◌∷◌, map, length, drop, refl, sym, ap, ap₂, ◌∙◌, arith, filter, add-one, drop-drop, drop_all, ltb-false, eqb-true, ne_eqb, eqb-false, eq-eqb, cases_lt, lt-ltb, le-ltb, or_right, or_parts, list_any, ResourceRecord, distinct, zip, begins_with_type, sets_ended, AllByRecursion, each_weaker, each_distinct}
+use Rattle.dns_zone.proofs.Common.{◌≡◌, ℕ, zero, suc, ◌+◌, ◌<◌, ◌≤◌, Bool, true, false, ◌&&◌, ◌||◌, not, cond, nat_lt, eqb, ◌==◌, List, [], ◌∷◌, map, length, drop, refl, sym, ap, ap₂, ◌∙◌, arith, filter, add-one, drop-drop, ltb-false, eqb-true, ne_eqb, eqb-false, eq-eqb, cases_lt, lt-ltb, le-ltb, or_right, or_parts, list_any, ResourceRecord, distinct, zip, begins_with_type, sets_ended, AllByRecursion, each_weaker, each_distinct}
 use Rattle.dns_spec.proofs.General.Elements.{each_map}
 use Rattle.dns_spec.proofs.General.Filters.{filter_all, filter_again}
 use Rattle.dns_spec.proofs.General.Tests.{any_alike, any_either}

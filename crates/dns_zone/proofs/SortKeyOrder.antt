@@ -1,5 +1,5 @@
 -- Places are in the order of their records.
-use Rattle.dns_zone.proofs.Common.{◌≡◌, ℕ, zero, suc, ◌-◌, ◌≤◌, ◌⊎◌, inl, inr, [], ◌∷◌, length, subst, wire, IsEight, take, drop, min-eq_left, take_all, drop_all, cases_lt, refl, sym, ap, ap₂, ◌∙◌, arith, Ordering, Less, Equal, Greater, cases_order, nat_cmp, nat_cmp_is, nat_cmp_total, nat_list_cmp_total, IsTotalOrder, then_total, on_total, ordering_then, ordering_reverse, slice_cmp, tied_itself, alike_right, List, Octets, ResourceRecord, LowerOwner, record_order, name_key, placed, sorted_key, sort_key_order, own_order, AreFronts, IsSortKey, SortKey}
+use Rattle.dns_zone.proofs.Common.{◌≡◌, ℕ, zero, suc, ◌≤◌, ◌⊎◌, inl, inr, [], ◌∷◌, length, subst, wire, IsEight, take, drop, min-eq_left, take_all, drop_all, cases_lt, refl, sym, ap, ap₂, ◌∙◌, arith, Ordering, Less, Equal, Greater, cases_order, nat_cmp, nat_cmp_is, nat_cmp_total, nat_list_cmp_total, IsTotalOrder, then_total, on_total, ordering_then, ordering_reverse, slice_cmp, tied_itself, List, Octets, ResourceRecord, LowerOwner, record_order, name_key, placed, sorted_key, sort_key_order, own_order, AreFronts, IsSortKey, SortKey}
 use Rattle.std.specs.Prelude.{min}
 use Rattle.std.proofs.Math.Nat.{min-eq_right}
 use Rattle.dns_zone.proofs.KeyOrder.{key_order}

@@ -1,5 +1,5 @@
 -- Sorted sort keys without those of duplicates are those of the records in canonical order.
-use Rattle.dns_zone.proofs.Common.{◌≡◌, ℕ, zero, suc, ◌<◌, ◌≤◌, inl, inr, List, [], ◌∷◌, All, AllByRecursion, Ordering, name_key, length-map, get_or-map, ap₂, recursion_from_All, All-weaker, length, map, get_or, refl, sym, ap, ◌∙◌, arith, true, is_eq, Less, Equal, subst, get_or_default, cases_order, tied_itself, IsPermutation, IsSorted, Octets, ResourceRecord, IsReadRecord, LowerOwner, record_order, record_order_total, record_ties, one_record, records_equal, distinct, sort_by, rises_canonical, Among, Rises, among_contains, among_distinct, among_sort, distinct_among, sort_among, same_risen, AreApart, AreSortKeys, AreSorted, IsSortKey, no_record, own_order, same_sort_key, sorted_key, sort_key_order, placed, SortKey, Bool, false, ◌==◌, ◌&&◌, nat_cmp, slice_cmp, ordering_then, nat_ties}
+use Rattle.dns_zone.proofs.Common.{◌≡◌, ℕ, zero, suc, ◌<◌, ◌≤◌, List, [], ◌∷◌, All, AllByRecursion, Ordering, name_key, length-map, get_or-map, ap₂, recursion_from_All, All-weaker, length, map, get_or, refl, sym, ap, ◌∙◌, arith, true, is_eq, Less, Equal, subst, get_or_default, cases_order, tied_itself, IsPermutation, IsSorted, Octets, ResourceRecord, IsReadRecord, LowerOwner, record_order, record_order_total, record_ties, one_record, records_equal, distinct, sort_by, rises_canonical, Among, Rises, among_contains, among_distinct, among_sort, distinct_among, sort_among, same_risen, AreApart, AreSortKeys, AreSorted, IsSortKey, no_record, own_order, same_sort_key, sorted_key, sort_key_order, placed, SortKey, Bool, ◌==◌, ◌&&◌, nat_cmp, slice_cmp, ordering_then, nat_ties}
 use Rattle.dns_zone.specs.SortKeyForm.{no_sort_key}
 use Rattle.dns_zone.proofs.SortKeyOrder.{sort_key_order_total, placed_order}
 use Rattle.dns_spec.proofs.General.Elements.{each_map, each_both, each_at, among_get, among_mapped}

@@ -1,5 +1,5 @@
 -- The topmost cut that a name is at or below, found by comparing keys.
-use Rattle.dns_zone.proofs.Common.{◌≡◌, ℕ, ◌+◌, ◌<◌, ◌≤◌, Bool, true, false, ◌&&◌, cond, ◌==◌, nat_lt, ◌⊎◌, inl, inr, [], ◌∷◌, length, take, drop, map, refl, sym, ap, ◌∙◌, subst, arith, is_gt, length-append, length-take, take-append-le, min-eq_left, take-append_seam, starts_with, DomainName, folded, same, at_or_below, below, name_order, type_ns, ZoneContents, owns, is_cut, false≢true, and_parts, and_from, and_right, or_cases, or_left, or_right, cases_lt, lt-ltb, le-ltb, ltb-true, leb-true, at_or_below_cut, below_cut, octets_equal-decides, same_tests, at_or_below-cons, raised, ended, name_key, IsCutAbove, IsTopmost}
+use Rattle.dns_zone.proofs.Common.{◌≡◌, ℕ, ◌+◌, ◌<◌, ◌≤◌, Bool, true, false, ◌&&◌, cond, ◌==◌, nat_lt, ◌⊎◌, inl, inr, [], ◌∷◌, length, take, drop, map, refl, sym, ap, ◌∙◌, arith, is_gt, length-append, length-take, take-append-le, min-eq_left, take-append_seam, starts_with, DomainName, folded, same, at_or_below, below, name_order, type_ns, ZoneContents, owns, is_cut, false≢true, and_parts, and_from, and_right, or_cases, or_left, or_right, cases_lt, lt-ltb, le-ltb, ltb-true, leb-true, at_or_below_cut, below_cut, octets_equal-decides, same_tests, at_or_below-cons, raised, ended, name_key, IsCutAbove, IsTopmost}
 use Rattle.dns_zone.proofs.KeyPrefix.{under_begins, starts_under, some}
 use Rattle.dns_zone.proofs.NameOrder.{same-is, same-from}
 use Rattle.dns_zone.proofs.NameTree.{under-is, itself-under, between}

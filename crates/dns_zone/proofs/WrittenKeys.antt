@@ -1,5 +1,5 @@
 -- The key of a name, from the key of its parent.
-use Rattle.dns_zone.proofs.Common.{◌≡◌, ℕ, zero, suc, ◌+◌, ◌<◌, [], ◌∷◌, ◌++◌, length, take, drop, get_or, refl, sym, ap, ◌∙◌, subst, arith, length-append, length-map, take_all, Octets, DomainName, wire, labels_of, IsWireForm, ended, ending, name_key, BeginAlike}
+use Rattle.dns_zone.proofs.Common.{◌≡◌, ℕ, zero, suc, ◌+◌, ◌<◌, [], ◌∷◌, ◌++◌, length, take, drop, get_or, refl, sym, ap, ◌∙◌, arith, length-append, length-map, take_all, Octets, DomainName, wire, labels_of, IsWireForm, ended, ending, name_key, BeginAlike}
 use Rattle.dns_zone.proofs.KeyOrder.{key_length}
 use Rattle.dns_spec.proofs.DomainNames.WireNames.{wire_some}
 

@@ -1,4 +1,4 @@
-use Rattle.dns_zone.proofs.Common.{arith, ◌≡◌, ℕ, ◌++◌, map, Check, checks, failed_from, sym, ap, ◌∙◌, DomainName, Octets, folded, same, octets_equal, IsOwner, names_equal-decides, octets_equal-decides, same_tests, name_key}
+use Rattle.dns_zone.proofs.Common.{arith, ◌≡◌, ℕ, ◌++◌, map, Check, checks, failed_from, ap, ◌∙◌, DomainName, Octets, folded, same, octets_equal, IsOwner, names_equal-decides, octets_equal-decides, same_tests, name_key}
 use Rattle.std.proofs.Common.{OnOk, Result}
 use Rattle.dns_spec.specs.Checks.{is_origin, below_cut}
 use Rattle.dns_zone.proofs.CheckedNames.{key_equal}

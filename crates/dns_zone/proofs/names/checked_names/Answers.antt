@@ -1,4 +1,4 @@
-use Rattle.dns_zone.proofs.Common.{rules, ◌≡◌, ◌+◌, ◌-◌, ◌∷◌, ◌++◌, List, [], length, map, take, drop, sym, ap, ap₂, ◌∙◌, subst, arith, drop-drop, map_push, prefix_len, DomainName, ResourceRecord, ZoneContents, AllByRecursion, name_key, key_in, own_in, first_owner, owner_of, IsTopmost, IsChecked, IsOwner, owners_once, CheckedName}
+use Rattle.dns_zone.proofs.Common.{rules, ◌≡◌, ◌+◌, ◌-◌, ◌∷◌, ◌++◌, List, [], length, map, drop, sym, ap, ap₂, ◌∙◌, subst, arith, drop-drop, map_push, prefix_len, DomainName, ResourceRecord, ZoneContents, name_key, key_in, own_in, first_owner, owner_of, IsTopmost, IsChecked, IsOwner, owners_once, CheckedName}
 use Rattle.dns_zone.proofs.AtName.{is_at}
 use Rattle.dns_zone.proofs.GrowingNames.{LastName, root_first, comes_next, added_last, each_added, all_added}
 use Rattle.dns_zone.proofs.OwnerKeys.{first_keyed}

@@ -1,9 +1,9 @@
-use Rattle.dns_zone.proofs.Common.{DomainName, IsChild, IsRow, List, ResourceRecord, Row, [], ap, arith, at_or_below, drop, get_or, get_or_default, length, row_at, row_name, row_octets, rules, subst, sym, take, true, under, ℕ, ◌<◌, ◌∙◌, ◌≡◌, ◌≤◌}
+use Rattle.dns_zone.proofs.Common.{DomainName, IsChild, List, ResourceRecord, Row, [], ap, arith, at_or_below, drop, get_or, get_or_default, length, row_at, row_name, row_octets, rules, subst, sym, take, true, under, ℕ, ◌<◌, ◌∙◌, ◌≡◌, ◌≤◌}
 use Rattle.dns_zone.proofs.BoundedChildren.{none_under}
 use Rattle.dns_zone.proofs.ChildNames.{IsChildOf, cons_under}
 use Rattle.dns_zone.proofs.ChildRows.{is_under, owner_at, IsNext, child_there, none_before_it}
 use Rattle.dns_zone.proofs.Spans.{none_past}
-use Rattle.dns_zone.proofs.GrowingChildren.{Adding, start, next_is, step, done}
+use Rattle.dns_zone.proofs.GrowingChildren.{start, next_is, step, done}
 use Rattle.dns_zone.proofs.tree.add_children.Goals as goal
 use Rattle.dns_zone.proofs.tree.add_children.Goals.{After-shortest_end-name}
 

@@ -1,4 +1,4 @@
-use Rattle.dns_zone.proofs.Common.{rules, ◌≡◌, ◌≤◌, ◌<◌, length, ℕ, ◌+◌, List, [], ◌∷◌, ◌++◌, get_or, arith, refl, sym, ap, subst, ◌∙◌, inl, inr, ◌⊎◌, length-append, cases_lt, get_or_append_left, get_or_default, Octets, DomainName, ResourceRecord, IsReadRecord, All, All-nil, All-push, All-weaker, take_all, get_or-append_seam, All-more, names_equal-decides, labels_of_spelled, name_key, key_in, AreFronts, IsSortKey, SortKey, placed}
+use Rattle.dns_zone.proofs.Common.{rules, ◌≡◌, ◌≤◌, ◌<◌, length, ℕ, ◌+◌, List, [], ◌∷◌, ◌++◌, get_or, arith, refl, sym, ap, subst, ◌∙◌, length-append, cases_lt, get_or_append_left, get_or_default, Octets, DomainName, ResourceRecord, IsReadRecord, All, All-nil, All-push, All-weaker, take_all, get_or-append_seam, All-more, names_equal-decides, labels_of_spelled, name_key, key_in, AreFronts, IsSortKey, SortKey, placed}
 use Rattle.dns_zone.proofs.OwnerKeys.{key_stays, key_added}
 use Rattle.dns_zone.proofs.order.owner_keys.keys_of.Goals as goal
 use Rattle.dns_zone.proofs.order.owner_keys.keys_of.Goals.{then-ne+in_ok-extend_from_slice-2, else-ne}

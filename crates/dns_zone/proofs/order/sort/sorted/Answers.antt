@@ -1,4 +1,4 @@
-use Rattle.dns_zone.proofs.Common.{◌≡◌, ◌<◌, ◌≤◌, ◌∙◌, ℕ, List, All, length, map, sym, ap, ap₂, subst, arith, length-map, get_or-map, Octets, ResourceRecord, IsReadRecord, record_order, sort_risen, rises_canonical, all_canonical, AreApart, AreOrdered, AreKeyed, AreSortKeys, AreSorted, key_in, name_key, no_record, placed, SortKey}
+use Rattle.dns_zone.proofs.Common.{◌≡◌, ◌<◌, ◌≤◌, ◌∙◌, ℕ, List, All, length, map, sym, ap, subst, arith, length-map, get_or-map, Octets, ResourceRecord, IsReadRecord, record_order, sort_risen, rises_canonical, all_canonical, AreApart, AreOrdered, AreKeyed, AreSorted, name_key, no_record, placed, SortKey}
 use Rattle.dns_zone.specs.SortKeyForm.{no_sort_key}
 use Rattle.dns_zone.proofs.order.sort.sorted.Goals as goal
 use Rattle.dns_zone.proofs.order.sort.sorted.Goals.{In_ok-sort_distinct, After-gather}
