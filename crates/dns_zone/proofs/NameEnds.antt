@@ -1,5 +1,5 @@
 -- The shortest suffix of a name that has at least a given number of octets.
-use Rattle.dns_zone.proofs.Common.{◌≡◌, ℕ, suc, ◌+◌, ◌-◌, ◌<◌, ◌≤◌, Bool, true, false, nat_lt, if◌then◌else◌, [], ◌∷◌, length, drop, get_or, refl, sym, ap, ap₂, ◌∙◌, arith, length-append, length-drop, false_from_ne_true, ltb-true, ltb-false, lt-ltb, drop_at, drop-drop, get_or-drop, Octets, DomainName, wire, is_name, folded, same, at_or_below, names_equal, at_or_below-cons, at_or_below-short, at_or_below-long, at_or_below-length-wire, is_name-tail, ending}
+use Rattle.dns_zone.proofs.Common.{◌≡◌, ℕ, suc, ◌+◌, ◌-◌, ◌<◌, ◌≤◌, Bool, true, false, nat_lt, ◌||◌, if◌then◌else◌, [], ◌∷◌, length, drop, get_or, refl, sym, ap, ap₂, ◌∙◌, arith, length-append, length-drop, false_from_ne_true, ltb-true, ltb-false, lt-ltb, or-false, drop_at, drop-drop, get_or-drop, Octets, DomainName, wire, is_name, folded, same, at_or_below, names_equal, at_or_below-cons, at_or_below-short, at_or_below-long, at_or_below-length-wire, is_name-tail, ending}
 use Rattle.dns_spec.proofs.DomainNames.WireNames.{wire_some}
 
 -- An invariant of skipping the labels of a name n, whose octets are xs: from index k on, xs is the
@@ -65,20 +65,9 @@ end_is (l ∷ n) m low lower =
         → names_equal (ending (length (wire m)) n) m ≡ at_or_below n m
         → names_equal (if t then l ∷ n else ending (length (wire m)) n) m ≡ at_or_below (l ∷ n) m
     go true e r =
-        grind (
-          arith,
-          wire,
-          n,
-          m,
-          ltb-true,
-          false_from_ne_true,
-          at_or_below-length-wire,
-          at_or_below-cons,
-          l,
-          same,
-          ap₂,
-          names_equal,
-          low,
-          lower,
-        )
+        let short : length (wire n) < length (wire m) = ltb-true _ _ e in
+        let other : at_or_below n m ≡ false =
+        false_from_ne_true _ (λ at. absurd (omega (arith, at_or_below-length-wire n m at))) in
+        sym (at_or_below-cons l n m ∙ ap (λ t. same (l ∷ n) m || t) other
+        ∙ or-false (same (l ∷ n) m) ∙ ap₂ names_equal low lower)
     go false e r = grind (arith, ltb-false, at_or_below-long, length-append)

@@ -1,4 +1,4 @@
-use Rattle.dns_zone.proofs.Common.{arith, ◌≡◌, ℕ, ◌++◌, map, Check, checks, failed_from, ap, ◌∙◌, DomainName, Octets, folded, same, octets_equal, IsOwner, names_equal-decides, octets_equal-decides, same_tests, name_key}
+use Rattle.dns_zone.proofs.Common.{arith, ◌≡◌, ℕ, ◌++◌, map, Check, checks, failed_from, sym, ap, ◌∙◌, DomainName, Octets, folded, same, octets_equal, IsOwner, names_equal-decides, octets_equal-decides, same_tests, name_key}
 use Rattle.std.proofs.Common.{OnOk, Result}
 use Rattle.dns_spec.specs.Checks.{is_origin, below_cut}
 use Rattle.dns_zone.proofs.CheckedNames.{key_equal}
@@ -10,15 +10,11 @@ use Rattle.dns_zone.proofs.checks.report.Goals as goal
 same_keys : (n m : DomainName) (key other : Octets) → folded n ≡ n → folded m ≡ m
     → key ≡ name_key n → other ≡ name_key m → octets_equal key other ≡ same n m
 same_keys n m key other p q e f =
-    grind (
-      arith,
-      same_tests,
-      names_equal-decides,
-      folded,
-      key_equal,
-      octets_equal-decides,
-      name_key,
-    )
+    same_tests _ _
+    (λ h. (names_equal-decides (folded n) (folded m)).1
+    (ap folded (key_equal n m p q (sym e ∙ (octets_equal-decides key other).0 h ∙ f))))
+    (λ h. (octets_equal-decides key other).1 (e
+    ∙ ap name_key (sym p ∙ (names_equal-decides (folded n) (folded m)).0 h ∙ q) ∙ sym f))
 
 pub invariant_of-owner : goal.invariant_of-owner
 invariant_of-owner c =
