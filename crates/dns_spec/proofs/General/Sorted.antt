@@ -104,9 +104,6 @@ module _ {X : Type 0} (cmp : X → X → Ordering) (order : IsTotalOrder cmp)
   apart : (x : X) → cmp x x ≡ Less → ⊥
   apart x p = false≢true (ap is_lt (sym (tied_itself order x) ∙ p))
 
-  neither : (x y : X) → cmp x y ≡ Less → cmp y x ≡ Less → ⊥
-  neither x y p q = apart x (order.trans x y x p q)
-
   -- two rising lists with the same elements are equal
   pub same_risen : (xs ys : List X) → Rises cmp xs → Rises cmp ys
       → ((a : X) → Among a xs → Among a ys) → ((a : X) → Among a ys → Among a xs) → xs ≡ ys

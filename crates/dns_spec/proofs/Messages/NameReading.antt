@@ -80,10 +80,6 @@ place_for s p = grind (arith, cases_lt, inl, inr)
 abbrev Alike : ℕ → (ℕ → Option (DomainName × ℕ)) → (ℕ → Option (DomainName × ℕ)) → Type 0
 Alike s known known' = (p : ℕ) → 12 ≤ p → p < s → known p ≡ known' p
 
-same_jump : (known known' : ℕ → Option (DomainName × ℕ)) (s i p : ℕ)
-    → Alike s known known' → PlaceFor s p → jump known s i p ≡ jump known' s i p
-same_jump known known' s i p h h1 = grind arith
-
 past_end : (known : ℕ → Option (DomainName × ℕ)) (b : Octets) (s r i : ℕ)
     → length b ≤ i → run known b s r i ≡ None
 unfolding run
@@ -156,10 +152,6 @@ sound_jump known b t s i p n e (o, o', at, top, at', place) (lawful from before)
     subst (RunAt b s i n) q.2 (jumps i o o' p n q.0 at top at' place from before (t p n q.0 q.1))
 sound_jump known b t s i p n e at (too_low h) is = grind arith
 sound_jump known b t s i p n e at (too_high h) is = grind arith
-
-labelled_parts : (l : Octets) (x : Option (DomainName × ℕ)) (n : DomainName) (e : ℕ)
-    → option_map (with_label l) x ≡ Some (n, e) → (m : DomainName) × (x ≡ Some (m, e)) × (l ∷ m ≡ n)
-labelled_parts l x n e h = grind arith
 
 sound_step : (known : ℕ → Option (DomainName × ℕ)) (b : Octets) → Truthful b known → (s r i : ℕ)
     (n : DomainName) (e : ℕ) → ((j : ℕ) (m : DomainName) (d : ℕ) → run known b s r j ≡ Some (m, d)

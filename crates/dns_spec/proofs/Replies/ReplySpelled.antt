@@ -20,11 +20,6 @@ field_bound d i e =
     (recursion_from_All (λ o. o < 256)
     (take 2 (drop i d)) (All-take (λ o. o < 256) 2 (drop i d) (All-drop (λ o. o < 256) i d e)))
 
--- the header of a reply fits its fields
-flags_bound : (h : Header) (aa tc : Bool) (rcode : ℕ)
-    → rcode < 16 → (reply_head h aa tc rcode).flags < 2 ^ 16
-flags_bound h aa tc rcode low = grind (arith, mod-lt)
-
 -- a question that was read fits its fields
 askable : (d : Octets) (q : MessageQuestion)
     → All (λ o. o < 256) d → question_at d ≡ Some q → IsAskable q

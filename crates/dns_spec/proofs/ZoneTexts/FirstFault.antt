@@ -140,23 +140,8 @@ module _ (o : DomainName) (octets past beyond : Octets) where
           → length (front ++ x) - length x ≡ length front
       places e = omega (arith, e)
 
-  lexical_given : (earlier : List Entry) (e : Entry) (fault : FileFault) (answer : EntryMeaning)
-      → lexical_fault e ≡ Some fault → EntryGives o earlier e answer → answer ≡ faulty fault
-  lexical_given earlier e fault answer is h = grind arith
-
-  given_lexical : (earlier : List Entry) (e : Entry) (fault : FileFault) (answer : EntryMeaning)
-      → lexical_fault e ≡ Some fault → answer ≡ faulty fault → EntryGives o earlier e answer
-  given_lexical earlier e fault answer is h = grind arith
-
   abbrev pub wrong_one : List Token → Entry
   wrong_one ts = record { tokens = ts; end_fault = Some bad_parenthesis }
-
-  pub wrong_is : (ts : List Token) → lexical_fault (wrong_one ts) ≡ Some bad_parenthesis
-  wrong_is ts = go (take_turns false (parentheses ts))
-    where
-      go : (b : Bool) → cond b (Some bad_parenthesis) (Some bad_parenthesis) ≡ Some bad_parenthesis
-      go true = refl
-      go false = refl
 
   faulty_first : (earlier : List Entry) (x : Octets) (e : Entry) (fault : FileFault) (line : ℕ)
       → FirstEntry extent x e → EntryGives o earlier e (faulty fault) → line ≡ line_after earlier
@@ -181,10 +166,6 @@ module _ (o : DomainName) (octets past beyond : Octets) where
   abbrev pub Lexical : Entry → Type 0
   Lexical e = (fault : FileFault) × (lexical_fault e ≡ Some fault)
 
-  pub none_given : {A : Type 0} (earlier : List Entry) (e : Entry) (own : List ResourceRecord)
-      → Lexical e → EntryGives o earlier e (gives own) → A
-  none_given earlier e own (fault, is) given = grind arith
-
   pub stops : (now : Bool) (c : ℕ) (rest : Octets)
       → (fault : FileFault) × (stop_fault extent now (stop_at (c ∷ rest)) ≡ Some fault)
   stops now c rest = go extent (c == 34)
@@ -205,12 +186,6 @@ module _ (o : DomainName) (octets past beyond : Octets) where
       go : (b : Bool) → (f : FileFault) × (cond b end (Some bad_parenthesis) ≡ Some f)
       go true = (fault, is)
       go false = (bad_parenthesis, refl)
-
-  -- the records of an entry, and then what the later entries mean
-  meaning_after : (own later rs : List ResourceRecord) (found : List EntryFault)
-      → rs ≡ own ++ later → meaning_by (octets ++ beyond) found rs ≡ after own (meaning_by (octets ++ beyond) found later)
-  meaning_after own later rs [] is = ap records is
-  meaning_after own later rs (f ∷ found) is = refl
 
   -- an entry without a fault that ends with its line end
   sound_line : (earlier : List Entry) (x rest : Octets) (ts : List Token)
@@ -306,16 +281,6 @@ module _ (o : DomainName) (octets past beyond : Octets) where
 some_left : (text : Octets) → nat_lt 0 (length (take 1 text)) ≡ nat_lt 0 (length text)
 some_left [] = refl
 some_left (x ∷ text) = sym (lt-ltb 0 (length (x ∷ text)) (omega arith))
-
-less_left : (k n : ℕ) → nat_lt 0 (n - k) ≡ nat_lt k n
-less_left k n = go (nat_lt k n) refl
-  where
-    go : (b : Bool) → nat_lt k n ≡ b → nat_lt 0 (n - k) ≡ b
-    go true e = let less = ltb-true k n e in lt-ltb 0 (n - k) (omega (arith, less))
-    go false e = let most = ltb-false k n e in ltb_none (n - k) (omega (arith, most))
-      where
-        ltb_none : (m : ℕ) → m ≡ 0 → nat_lt 0 m ≡ false
-        ltb_none m is = rw is refl
 
 pub goes_on : (k : ℕ) (text : Octets)
     → nat_lt 0 (length (take 1 (drop k text))) ≡ nat_lt k (length text)

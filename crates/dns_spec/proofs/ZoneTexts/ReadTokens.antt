@@ -47,12 +47,6 @@ tokens_small text [] rest h = tt
 tokens_small text (p ∷ ps) rest (others, e, h) =
     grind (arith, run_small, leb-true, eqb-true, (tokens_small others ps rest h))
 
--- the words and strings of the entries into which tokens are split are octets below 256
-before_small : (p : Token) (pss : List (List Token))
-    → SmallToken p → AllByRecursion (AllByRecursion SmallToken) pss
-    → AllByRecursion (AllByRecursion SmallToken) (before_first p pss)
-before_small p pss h h1 = grind arith
-
 cut_small : (is_open : Bool) (ps : List Token)
     → AllByRecursion SmallToken ps
     → AllByRecursion (AllByRecursion SmallToken) (cut_entries is_open ps)
