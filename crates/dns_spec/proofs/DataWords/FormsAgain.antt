@@ -1,6 +1,6 @@
 -- The word that is written for the first field of data spells that field again, for each kind of
 -- field.
-use Rattle.dns_spec.proofs.Common.{◌≡◌, ℕ, zero, suc, ◌^◌, ◌<◌, ◌≤◌, All, true, Bool, not, Some, List, [], ◌∷◌, ◌++◌, length, take, drop, replicate, refl, sym, ap, subst, arith, take-append-drop, pow-le-pow_right, and_from, and_parts, false≢true, length-take-le, list_all, Octets, DomainName, wire, is_label, is_name, name_of, are_strings, number_of, Word, Field, number, ipv4, ipv6, domain, string, SaysWord, SaysFields, SaysString, is_unknown_mark, All-take, All-drop, name_front, word_front, field_words, string_count, quoted, stands_alone, AllByRecursion, strings}
+use Rattle.dns_spec.proofs.Common.{◌≡◌, ℕ, zero, suc, ◌^◌, ◌<◌, ◌≤◌, All, true, Bool, not, Some, List, [], ◌∷◌, ◌++◌, length, take, drop, replicate, refl, sym, ap, subst, arith, take-append-drop, pow-le-pow_right, and_from, and_parts, false≢true, length-take-le, list_all, Octets, DomainName, wire, is_label, is_name, name_of, are_strings, number_of, Word, Field, number, ipv4, ipv6, domain, string, SaysWord, SaysFields, is_unknown_mark, All-take, All-drop, name_front, word_front, field_words, string_count, stands_alone, AllByRecursion, strings}
 use Rattle.dns_spec.proofs.DomainNames.SmallOctets.{Small, small_head, small_tail, small_front, small_back, small_test}
 use Rattle.dns_spec.proofs.DomainNames.NameLaws.{IsName-is_name, IsLabel-is_label}
 use Rattle.dns_spec.proofs.NameTexts.WrittenNames.{name_spelled}
@@ -126,10 +126,7 @@ string_front_said origin k d inside small =
     record {
       front = k ∷ take k d;
       whole = ap (λ x. k ∷ x) (sym (take-append-drop k d));
-      word = record {
-        quotes = refl;
-        said = subst (λ j. SaysString (quoted (take k d)).raw (j ∷ take k d)) long said;
-      };
+      word = grind arith;
       after = refl;
       standing = string_standing (take k d) (All-take (λ o. o < 256) k d (small_tail k d small));
     }

@@ -16,8 +16,7 @@ hex_again [] small = refl
 hex_again (o ∷ d) small =
     let here : o < 256 = small_head o d small in
     let after = hex_again d (small_tail o d small) in
-    rw (hex_digit (o / 16) (omega arith), hex_digit (o % 16) (omega arith), after)
-    (ap (λ x. Some (x ∷ d)) (digits_say o here))
+    grind (arith, hex_digit, digits_say)
 
 two_each : (d : Octets) → length (hex_text d) ≡ 2 * length d
 two_each [] = refl

@@ -60,9 +60,7 @@ ipv4_once text d e h k =
     let small = p.fourth_small in
     let small' = q.fourth_small in
     let four = decimal_injective p.fourth q.fourth
-    (omega (arith, small)) (omega (arith, small')) three.1 in
-    p.is ∙ ap₂ (λ x xs. x ∷ xs) one.0
-    (ap₂ (λ x xs. x ∷ xs) two.0 (ap₂ (λ x y. x ∷ y ∷ []) three.0 four)) ∙ sym q.is
+    (omega (arith, small)) (omega (arith, small')) three.1 in cc
 
 -- a field as in the table, in which numbers have at most 32 bits
 pub is_narrow : Field → Bool

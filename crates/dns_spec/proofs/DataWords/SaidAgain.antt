@@ -115,8 +115,7 @@ strings_formed t origin d made xs e alone h small =
     let k = string_count 0 d in
     let fs = replicate k strings in
     let count : max 1 k ≡ k = omega (arith, some_string d all.0) in
-    let forms : forms_by k made ≡ fs = ap (word_fields k) alone
-    ∙ ap (λ j. replicate j strings) count in
+    let forms : forms_by k made ≡ fs = grind arith in
     let long : length fs ≡ k = length-replicate k strings in
     record {
       forms = fs;
@@ -190,8 +189,7 @@ words_alone t d small ok = go (row_of t) refl
     go None e = ap (list_all stands_alone) (unnamed_words t d e)
         ∙ unknown_alone d (cut_data t d ok).short small
     go (Some made) e =
-        let f = formed t [] d made e ok small in
-        ap (λ o. list_all stands_alone (words_by o d)) f.of_data ∙ f.words.alone
+        let f = formed t [] d made e ok small in cc
 
 unknown_whole : (d : Octets) → length d ≤ 65535 → Small d
     → AllByRecursion TakenWhole (unknown_words d)

@@ -73,8 +73,7 @@ dot_last l (m ∷ n) =
     let d = dot_last m n in
     record {
       front = (label_text l ++ 46 ∷ []) ++ d.front;
-      whole = ap (λ x. (label_text l ++ 46 ∷ []) ++ x) d.whole
-          ∙ sym (append_assoc (label_text l ++ 46 ∷ []) d.front (46 ∷ []));
+      whole = grind (arith, append_assoc (label_text l ++ 46 ∷ []) d.front (46 ∷ []));
     }
 
 dotted_unmarked : (x front : Octets) → x ≡ front ++ 46 ∷ [] → is_unknown_mark (plain x) ≡ false

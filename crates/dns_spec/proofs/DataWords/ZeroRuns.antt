@@ -1,5 +1,5 @@
 -- The longest run of zero groups begins at the index that `longest_place` gives.
-use Rattle.dns_spec.proofs.Common.{◌≡◌, ℕ, zero, suc, ◌+◌, ◌<◌, ◌≤◌, ◌⊎◌, inl, inr, max, Bool, true, false, ◌==◌, List, [], ◌∷◌, ◌++◌, length, take, drop, get_or, replicate, fold, refl, sym, ◌∙◌, ap, subst, arith, append_assoc, take-append-drop, length-drop, cases_Bool, cases_lt, eqb-true, eq-eqb, true≢false, drop-drop, prefix_len, position_or_len, prefix_len-le-length, fails_before_first, passes_at_first, zero_runs, longest_run, longest_place}
+use Rattle.dns_spec.proofs.Common.{◌≡◌, ℕ, zero, suc, ◌+◌, ◌<◌, ◌≤◌, ◌⊎◌, inl, inr, max, Bool, true, false, ◌==◌, List, [], ◌∷◌, ◌++◌, length, take, drop, get_or, replicate, fold, refl, sym, ◌∙◌, ap, arith, append_assoc, take-append-drop, length-drop, cases_Bool, cases_lt, eqb-true, eq-eqb, true≢false, drop-drop, prefix_len, position_or_len, prefix_len-le-length, fails_before_first, passes_at_first, zero_runs, longest_run, longest_place}
 
 abbrev pub is_zero : ℕ → Bool
 is_zero n = n == 0
@@ -64,9 +64,7 @@ zeros_first (g ∷ gs) = by_cases (zeros_first gs) (cases_Bool (is_zero g))
     by_cases after (inl z) =
         let n = prefix_len is_zero gs in
         let one : 1 + n ≡ suc n = omega arith in
-        rw z
-        (ap (λ k. take k (g ∷ gs)) one ∙ ap (λ x. x ∷ take n gs) (eqb-true g 0 z)
-        ∙ ap (λ t. 0 ∷ t) after ∙ ap (λ k. replicate k 0) (sym one))
+        grind (arith, eqb-true)
     by_cases after (inr other) = rw other refl
 
 -- groups are the groups before the run, its zeros, and the groups after it
@@ -77,8 +75,7 @@ around_run gs r =
     let run = longest_run gs in
     let front = take place gs in
     let back = drop place gs in
-    let zeros : take run back ≡ replicate run 0 =
-    subst (λ k. take k back ≡ replicate k 0) r.long (zeros_first back) in
+    let zeros : take run back ≡ replicate run 0 = grind (arith, zeros_first back) in
     ap (λ z. (front ++ z) ++ drop (place + run) gs) (sym zeros)
     ∙ ap (λ b. (front ++ take run back) ++ b) (sym (drop-drop run place gs))
     ∙ append_assoc front (take run back) (drop run back)

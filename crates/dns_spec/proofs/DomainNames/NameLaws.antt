@@ -149,8 +149,7 @@ at_or_below-long l n a h = search (rules, false_from_ne_true, same-length-wire, 
 -- RFC 1035 2.3.4: a name has at most 127 labels, without the root's
 pub length-is_name : (n : DomainName) → is_name n ≡ true → length n ≤ 127
 length-is_name n ok =
-    let name = IsName-is_name n ok in
-    omega (arith, length-wire_long n name.labels)
+    let name = IsName-is_name n ok in grind (arith, length-wire_long)
   where
     length-wire_long : (n : DomainName)
         → list_all is_label n ≡ true → 2 * length n + 1 ≤ length (wire n)

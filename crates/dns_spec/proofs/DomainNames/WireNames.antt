@@ -79,8 +79,7 @@ wire_fronts_agree (l ∷ n) (k ∷ m) rest tail p q e =
     sym (drop_at l (wire n ++ rest) _ as_long)
     ∙ ap (drop (length k)) after ∙ drop_at k (wire m ++ tail) _ refl in
     let agree = wire_fronts_agree n m rest tail (and_parts (is_label l) (list_all is_label n) p).1
-    (and_parts (is_label k) (list_all is_label m) q).1 others in
-    (ap (λ z. z ∷ n) first ∙ ap (λ z. k ∷ z) agree.0, agree.1)
+    (and_parts (is_label k) (list_all is_label m) q).1 others in grind arith
 
 -- a wire form has at least the root's octet
 pub wire_some : (n : DomainName) → 0 < length (wire n)

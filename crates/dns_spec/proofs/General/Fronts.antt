@@ -1,7 +1,7 @@
 -- The first elements of a list, and the rest.
 use Rattle.std.proofs.lemmas.List.Sums.{prefix_len_passes, prefix_len_stops}
 use Rattle.std.specs.List.Sorted.{IsPartitionPoint}
-use Rattle.dns_spec.proofs.Common.{Bool, List, [], ap, ap₂, arith, cond, drop, false, filter, get_or, length, length-drop, length-take, not, refl, suc, sym, take, true, zero, ℕ, ◌+◌, ◌-◌, ◌∙◌, ◌∷◌, ◌≡◌, ◌≤◌, AllByRecursion, prefix_len, IsPartitionedBy, take-add, take-length, false_from_ne_true, false≢true, get_or-drop, get_or-take, take-append-drop, filter-append, prefix_len-le-length, parts, ◌++◌, take-append-le, take_at}
+use Rattle.dns_spec.proofs.Common.{Bool, List, [], ap, ap₂, arith, drop, false, filter, get_or, length, length-drop, length-take, not, refl, suc, sym, take, true, zero, ℕ, ◌+◌, ◌-◌, ◌∙◌, ◌∷◌, ◌≡◌, ◌≤◌, AllByRecursion, prefix_len, IsPartitionedBy, take-add, take-length, false_from_ne_true, false≢true, get_or-drop, get_or-take, take-append-drop, filter-append, prefix_len-le-length, parts, ◌++◌, take-append-le, take_at}
 use Rattle.dns_spec.proofs.General.Elements.{each_weaker, each_from_get}
 use Rattle.dns_spec.proofs.General.Filters.{filter_all, filter_none}
 
@@ -16,11 +16,7 @@ halves p (x ∷ xs) (suc i) l h =
     let rest = halves p xs i (omega arith) (
       λ k d a b. h.0 (suc k) d (omega arith) (omega arith),
       λ k d a b. h.1 (suc k) d (omega arith) (omega arith),
-    ) in (
-      ap (λ ys. x ∷ ys) rest.0 ∙ sym (ap (λ t. cond t (x ∷ filter p xs) (filter p xs)) here),
-      rest.1 ∙ sym (ap
-          (λ t. cond (not t) (x ∷ filter (λ y. not (p y)) xs) (filter (λ y. not (p y)) xs)) here),
-    )
+    ) in grind arith
 
 -- if the passing elements of a list come first, they also come first in each of its prefixes
 pub parted_take : {X : Type 0} (p : X → Bool) (xs : List X) (n : ℕ) → IsPartitionedBy p xs
@@ -82,8 +78,7 @@ take_patched a k b x b' e low inside =
     let more : a + (k - a) ≡ k = omega (arith, low) in
     let split : take k b ≡ take a b ++ take (k - a) (drop a b) =
     ap (λ j. take j b) (sym more) ∙ take-add a (k - a) b in
-    ap (take a) e ∙ take-append-le a (take k b) x (omega (arith, low, long, inside)) ∙ ap (take a)
-    split ∙ take_at (take a b) (take (k - a) (drop a b)) a (omega (arith, front, low, inside))
+    grind (arith, take-append-le, take_at, front)
 
 pub drop_one : (n o : ℕ) (text : List ℕ) → drop (1 + n) (o ∷ text) ≡ drop n text
 drop_one n o text = let next : 1 + n ≡ suc n = omega arith in ap (λ m. drop m (o ∷ text)) next

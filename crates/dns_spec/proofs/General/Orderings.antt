@@ -44,12 +44,10 @@ module _ {A : Type 0} (R : A → A → Ordering) where
       → ordering_then (slice_cmp R (reverse xs) (reverse ys)) (ordering_then (R x y) o)
       ≡ ordering_then (slice_cmp R (reverse (x ∷ xs)) (reverse (y ∷ ys))) o
   slice_cmp-reverse-cons x y xs ys o e =
-      let long : length (reverse xs) ≡ length (reverse ys) =
-      length-reverse xs ∙ e ∙ sym (length-reverse ys) in
+      let long : length (reverse xs) ≡ length (reverse ys) = grind (arith, length-reverse) in
       let S = slice_cmp R (reverse xs) (reverse ys) in
       let last : slice_cmp R (reverse xs ++ x ∷ []) (reverse ys ++ y ∷ []) ≡ ordering_then S
-      (R x y) = slice_cmp-append (reverse xs) (reverse ys) (x ∷ []) (y ∷ []) long
-      ∙ ap (ordering_then S) (then_equal (R x y))
+      (R x y) = grind (arith, slice_cmp-append, ordering_then, then_equal)
       in
       sym (rw (reverse-append (x ∷ []) xs, reverse-append (y ∷ []) ys)
       (ap (λ p. ordering_then p o) last ∙ then_assoc S (R x y) o))

@@ -43,8 +43,7 @@ module _ (size_of : List Item → ℕ)
       λ k. append_assoc front (i ∷ []) (take k is) in
       let later : (λ (k : ℕ). nat_le (size_of (next ++ take k is)) limit)
       ≡ (λ (k : ℕ). test (suc k)) = λ j k. nat_le (size_of (same k j)) limit in
-      let first : (k : ℕ) → test (suc k) ≡ true → test 1 ≡ true =
-      λ k e. fits_before next (take k is) (ap (λ x. nat_le (size_of x) limit) (same k) ∙ e) in
+      let first : (k : ℕ) → test (suc k) ≡ true → test 1 ≡ true = grind arith in
       go (test 1) (stops next is ∙ (λ j. next ++ take (greatest (later j) (length is)) is))
       ∙ ap (λ n. front ++ take n (i ∷ is)) (sym (greatest-first test (length is) first))
     where

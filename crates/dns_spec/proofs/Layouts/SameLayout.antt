@@ -27,10 +27,7 @@ begins_inside ms (k ∷ n) (x ∷ front) l t e none =
     let longer : length (wire (k ∷ n)) ≡ 1 + length k + length (wire n) =
     omega (arith, length-append k (wire n)) in
     let short = r.0 in
-    let inside = r.1 in (
-      omega (arith, longer, short),
-      grind (arith, shared_whole, length-append, octets_by),
-    )
+    let inside = r.1 in grind (arith, shared_whole, length-append, octets_by)
 
 low_more : (ms : List Placed) → Low ms
     → (n : DomainName) (i : ℕ) → i + length (shared_octets ms n) ≤ reach → Low (ms ++ (n, i) ∷ [])
@@ -157,12 +154,10 @@ same_records ms p (r ∷ rs) low ends =
     let s = same_record ms p r low (front ends) in
     let rest : Laid → Octets = λ l. records_by place_of (ms ++ l.names) (p + length l.written) rs in
     let again : Ends p (a.written ++ records_octets (ms ++ a.names) (p + length a.written) rs)
-    (a.written ++ rest a) = subst (λ (l : Laid). Ends p (a.written ++ records_octets
-    (ms ++ a.names) (p + length a.written) rs) (l.written ++ rest l)) (sym s.same) ends in
+    (a.written ++ rest a) = grind (arith, ends) in
     let later = same_records (ms ++ a.names)
     (p + length a.written) rs s.low (ends_rest p (p + length a.written) a.written
-    (records_octets (ms ++ a.names) (p + length a.written) rs) (rest a) refl again) in
-    ap (λ z. a.written ++ z) later ∙ ap (λ (l : Laid). l.written ++ rest l) s.same
+    (records_octets (ms ++ a.names) (p + length a.written) rs) (rest a) refl again) in cc later
   where
     front : Ends p (records_octets ms p (r ∷ rs)) (records_by place_of ms p (r ∷ rs))
         → Ends p (record_laid ms p r).written (record_by place_of ms p r).written

@@ -82,8 +82,7 @@ module _ (b : Octets) (room : length b < 2 ^ 16) where
       let o = part_octets part in
       let next = i + length o in
       let later = data_octets ms next ys in
-      let none : rest ≡ [] → later ≡ [] =
-      λ is. no_octets ys (cut_whole ps rest ys more ∙ is) ms next in
+      let none : rest ≡ [] → later ≡ [] = grind (arith, no_octets, cut_whole) in
       subst (λ x. Stands b i (data_octets ms i (x ∷ ys)) → Laid (p ∷ ps) os ms i (x ∷ ys))
       (octets_field p os rest part (grind arith) front) (λ at.
       let r = lays ms next (known_later b i next ms (omega arith) known)
@@ -118,8 +117,7 @@ module _ (b : Octets) (room : length b < 2 ^ 16) where
   whole_laid t d ms i ok known at =
       let none = append-nil d in
       record {
-        rdata = subst (λ z. data_at b t class_in i (i + length z) ≡ Some d)
-            (sym none) (data_written t d ok (subst (Stands b i) none at));
+        rdata = grind (arith, data_written);
         known = subst (Known b (i + length (d ++ [])))
             (sym (append-nil ms)) (known_later b i (i + length (d ++ [])) ms (omega arith) known);
       }
@@ -186,8 +184,7 @@ module _ (b : Octets) (room : length b < 2 ^ 16) where
       (omega arith) data_stands in
       let tail_len : length (record_tail r d) ≡ 10 + length d =
       length-append (t ++ c ++ l ++ k) d in
-      let next : i + length w ≡ after + length d =
-      omega (arith, length-append n (record_tail r d), tail_len) in
+      let next : i + length w ≡ after + length d = grind (arith, length-append) in
       let known_next : Known b (i + length w) later =
       subst (λ e. Known b e later) (sym next) (subst (Known b (after + length d)) (append_assoc ms
       ((r.owner, i) ∷ []) (data_names earlier after (parts_of r))) laid.known) in
@@ -213,8 +210,7 @@ asked_known : (b : Octets) (q : Option MessageQuestion) → IfSome q IsAskable
 asked_known b None ok at = nothing_known b 12
 asked_known b (Some q) ok at =
     let from : ℕ = 12 + length (question_octets q) in
-    let spelled : Stands b 12 (wire q.qname) = stands_front (wire q.qname) (octets16 q.qtype)
-    (stands_front (wire q.qname ++ octets16 q.qtype) (octets16 q.qclass) at) in
+    let spelled : Stands b 12 (wire q.qname) = grind (arith, stands_front) in
     let alone : Stands b 12 (shared_octets [] q.qname) =
     subst (Stands b 12) (sym (shared_alone q.qname)) spelled in
     let labels =
@@ -255,8 +251,7 @@ spells_where b h q items room ok counts writable whole =
     let head_len : length (rh ++ qo) ≡ from = length-append rh qo in
     let after : Stands b from rest = subst
     (λ x. Stands b x rest) (zero-add from) (stands_after from (rh ++ qo) rest head_len all) in
-    let end : from + length rest ≡ length b =
-    omega (arith, ap length whole, length-append (rh ++ qo) rest, head_len) in
+    let end : from + length rest ≡ length b = grind (arith, length-append) in
     let read : several (message_record_at b) (length (map message_record (records_of items))) from
     ≡ Some (map message_record (records_of items), length b) =
     records_laid b room (records_of items) (asked_placed q) from known (omega arith) writable after

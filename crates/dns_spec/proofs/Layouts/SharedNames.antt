@@ -16,8 +16,7 @@ suffix_from n s h =
     let k = length n - length s in
     record {
       front = take k n;
-      whole = sym (take-append-drop k n)
-          ∙ ap (λ x. take k n ++ x) ((names_equal-decides (drop k n) s).0 p.1);
+      whole = grind (arith, take-append-drop, names_equal-decides, p);
     }
 
 pub suffix_to : (n s : DomainName) → Suffix n s → has_suffix n s ≡ true
@@ -189,8 +188,7 @@ module _ (b : Octets) (bound : ℕ) (ms : List Placed) (known : Known b bound ms
       ≡ i + (length (wire (k ∷ n)) - length (wire (l ∷ t))) = omega (arith, longer, short) in
       record {
         short = omega (arith, longer, short);
-        inside =
-            omega (arith, longer, short, inside, ap length w, length-append k (shared_octets ms n));
+        inside = grind (arith, length-append);
         stands = subst (λ y. Stands b y (shared_octets ms (l ∷ t))) place r.stands;
       }
 

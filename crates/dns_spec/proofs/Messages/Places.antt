@@ -30,8 +30,7 @@ pub stands_rest : {b : Octets} {i : ℕ} (x y : Octets)
 stands_rest x y s = record {
   before = s.before ++ x;
   after = s.after;
-  whole = s.whole ∙ ap (λ z. s.before ++ z) (append_assoc x y s.after)
-      ∙ sym (append_assoc s.before x (y ++ s.after));
+  whole = cc (append_assoc x y s.after, append_assoc s.before x (y ++ s.after));
   place = length-append s.before x ∙ ap (λ z. z + length x) s.place;
 }
 

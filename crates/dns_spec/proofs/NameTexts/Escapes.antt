@@ -49,8 +49,7 @@ front-spelled (a ∷ b ∷ c ∷ text) x rest e = go (is_ascii_digit a
         let third = and_parts (is_ascii_digit a && is_ascii_digit b) (is_ascii_digit c) all.0 in
         let both = and_parts (is_ascii_digit a) (is_ascii_digit b) third.0 in
         let same = some_pair_parts (three_digits_value a b c) x text rest e in
-        let small : three_digits_value a b c < 256 =
-        ltb-true (three_digits_value a b c) 256 all.1 in (
+        let small : three_digits_value a b c < 256 = grind (arith, ltb-true) in (
           a ∷ b ∷ c ∷ [],
           ap (λ t. a ∷ b ∷ c ∷ t) same.1,
           (

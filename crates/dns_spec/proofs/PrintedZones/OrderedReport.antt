@@ -1,5 +1,5 @@
 -- The report of a zone does not depend on the order of its records.
-use Rattle.dns_spec.proofs.Common.{◌≡◌, List, [], refl, sym, ap, ◌∙◌, filter, ◌==◌, arith, DomainName, folded, same, type_soa, ResourceRecord, ZoneContents, records_equal, distinct, zone_of, sort_by, record_order, ordered_zone, first_serial, zone_serial, faults, zone_text, Options, passing, zone_report}
+use Rattle.dns_spec.proofs.Common.{◌≡◌, List, [], refl, ◌∙◌, filter, ◌==◌, arith, DomainName, folded, same, type_soa, ResourceRecord, ZoneContents, records_equal, distinct, zone_of, sort_by, record_order, ordered_zone, zone_serial, faults, zone_text, Options, passing, zone_report}
 use Rattle.dns_spec.proofs.ZoneChecks.FaultOrder.{folded_folded}
 use Rattle.dns_spec.proofs.Records.RecordOrder.{rises_canonical, ordered_faults}
 use Rattle.dns_spec.proofs.ZoneChecks.PassedChecks.{few_soa, one_soa}
@@ -27,8 +27,7 @@ module _ (o : DomainName) (rs : List ResourceRecord) where
       (filter is_soa (filter here once)) (few_soa z low ordered_passes) (few_soa y low passes)
       (λ a m. kept_among is_soa here a sorted once (λ b n. sort_among record_order b once n) m)
       (λ a m. kept_among is_soa here a once sorted (λ b n. among_sort record_order b once n) m)
-      in
-      ap first_serial (one_soa z low ordered_passes ∙ one ∙ sym (one_soa y low passes))
+      in grind (arith, one_soa)
 
   pub ordered_passing : (options : Options) → faults (zone_of o rs) ≡ []
       → passing options (ordered_zone o rs) ≡ passing options (zone_of o rs)

@@ -50,8 +50,7 @@ module _ (o : DomainName) (t : Octets) (rs : List ResourceRecord)
   reported_again short options report =
       let same : HoldSameRecords rs (printed_records (zone_of o rs)) =
       printed_hold_same o rs (owners_low (folded o) t rs means) in
-      same_reports o (zone_text (zone_of o rs)) t (printed_records (zone_of o rs)) rs
-      (text_means short) means (same.1, same.0) options report
+      search (arith, same_reports, zone_of, text_means)
 
 -- what is printed is the canonical text of a zone that passes
 pub printed_reports : (o : DomainName) (t : Octets) (options : Options) (report : Report)
@@ -61,8 +60,7 @@ printed_reports o t options report from (fault_at code line, means, e) printing 
 printed_reports o t options report from (records rs, means, e) printing passes short =
     let printed : report.output ≡ zone_text (zone_of o rs) =
     printed_output options (zone_of o rs) (faults (zone_of o rs)) report e printing passes in
-    let short' : length (zone_text (zone_of o rs)) ≤ most_octets =
-    subst (λ u. length u ≤ most_octets) printed short in
+    let short' : length (zone_text (zone_of o rs)) ≤ most_octets = grind arith in
     subst (λ u. Reports o u options report) (sym printed)
     ((reported_again o t rs from means short' options report).1 (records rs, means, e))
   where

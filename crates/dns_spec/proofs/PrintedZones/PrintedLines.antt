@@ -96,8 +96,7 @@ type_standing t small = go (row_of t) refl
     go (Some made) e =
         let p = and_parts (nat_lt 0 (length made.mnemonic))
         (list_all is_word_octet made.mnemonic) (mnemonic_bare t made e) in
-        bare_standing made.mnemonic
-        (ltb-true 0 (length made.mnemonic) p.0) (bare_tested made.mnemonic p.1)
+        search (rules, bare_standing, ltb-true, bare_tested)
 
 first_read : (r : ResourceRecord) → IsReadRecord r → AllByRecursion Read (first_words r)
 first_read r h = (

@@ -1,5 +1,5 @@
 -- The text of records means these records.
-use Rattle.dns_spec.proofs.Common.{◌≡◌, ℕ, suc, ◌+◌, ◌<◌, ◌≤◌, true, false, All, Some, None, List, [], ◌∷◌, ◌++◌, map, length, take, refl, sym, ◌∙◌, ap, subst, arith, codes, decimal, rules, lt-leb, le-ltb, take_all, MatchOption, is_ascii_digit, AllDigits, Octets, DomainName, octet_text, name_text, type_text, NamesType, Word, Says, plain, written_words, ResourceRecord, bad_owner, IsReadRecord, HasZoneType, record_line, decimal_is_IsNumeral, list_any, filter, flat_map, Token, most_octets, TokensThen, cut_entries, begins_with, Entry, Entries, ended, with_end, lexical_fault, whole_text, extent_by, faulty, gives, owned, kind_of, Fields, fields, directive_word, is_record, OriginIs, NameIs, IsRecord, most_records, RecordGives, KindGives, EntryGives, records, EntriesMean, Means, AllByRecursion, recursion_from_All}
+use Rattle.dns_spec.proofs.Common.{◌≡◌, ℕ, suc, ◌+◌, ◌<◌, ◌≤◌, true, false, All, Some, None, List, [], ◌∷◌, ◌++◌, map, length, take, refl, sym, ◌∙◌, ap, subst, arith, codes, decimal, rules, lt-leb, le-ltb, take_all, is_ascii_digit, AllDigits, Octets, DomainName, octet_text, name_text, type_text, NamesType, Word, Says, plain, written_words, ResourceRecord, bad_owner, IsReadRecord, HasZoneType, record_line, decimal_is_IsNumeral, list_any, filter, flat_map, Token, most_octets, TokensThen, cut_entries, begins_with, Entry, Entries, ended, with_end, lexical_fault, whole_text, extent_by, gives, owned, kind_of, Fields, fields, directive_word, is_record, OriginIs, NameIs, IsRecord, most_records, RecordGives, KindGives, EntryGives, records, EntriesMean, Means, AllByRecursion, recursion_from_All}
 use Rattle.dns_spec.proofs.NameTexts.WrittenNames.{name_spelled}
 use Rattle.dns_spec.proofs.DataWords.SaidAgain.{data_said}
 use Rattle.dns_spec.proofs.PrintedZones.PrintedLines.{line_tokens, line_pieces_read, line_cut, line_parentheses, line_words_again}
@@ -46,8 +46,7 @@ text_entries rs h short =
     record {
       tokens = lines_tokens rs;
       rest = [];
-      spelled = subst (λ t. TokensThen t (lines_tokens rs) [])
-          (sym (take_all most_octets text short)) (lines_read rs h);
+      spelled = search (rules, take_all, lines_read);
       at_end = refl;
       entries = sym (within ∙ ap (with_end whole_text []) (lines_cut rs) ∙ lines_ended rs);
     }
@@ -128,16 +127,14 @@ line_given o earlier r origin h zone_type few =
     let answer = gives (r ∷ []) in
     let Owner = NameIs o earlier (plain (name_text r.owner)) in
     let given : RecordGives o earlier bad_owner Owner (line_fields r) answer =
-    record_given o earlier bad_owner Owner (line_fields r) r (line_record o earlier
-    r origin h zone_type) refl (lt-leb most_records (length (filter is_record earlier)) few)
+    search (rules, record_given, line_record, lt-leb)
     in
     let by_words : KindGives o earlier (owned (plain (name_text r.owner)) (words_after r)) answer =
     subst (λ f. RecordGives o earlier bad_owner Owner f answer) (sym (fields_are r h)) given
     in
     let by_kind : KindGives o earlier (kind_of (line_entry r)) answer =
     subst (λ s. KindGives o earlier s answer) (sym (line_kind r)) by_words in
-    subst (λ fault. MatchOption fault (KindGives o earlier (kind_of (line_entry r)) answer)
-    (λ code. answer ≡ faulty code)) (sym (line_faultless r)) by_kind
+    grind (arith, line_faultless)
 
 line_keeps_origin : (r : ResourceRecord) → KeepsOrigin (line_entry r)
 line_keeps_origin r = ap (directive_word (codes "$origin")) (line_kind r)
@@ -162,8 +159,5 @@ pub printed_again : (o : DomainName) (rs : List ResourceRecord) → All IsReadRe
     → All HasZoneType rs → length rs ≤ most_records → length (flat_map record_line rs) ≤ most_octets
     → Means o (flat_map record_line rs) (records rs)
 printed_again o rs all types few short =
-    let each = recursion_from_All IsReadRecord rs all in (
-      lines_entries rs,
-      text_entries rs each short,
-      lines_mean o [] rs tt each (recursion_from_All HasZoneType rs types) (omega (arith, few)),
-    )
+    let each = recursion_from_All IsReadRecord rs all in
+    grind (arith, text_entries, lines_mean, recursion_from_All)

@@ -1,5 +1,5 @@
 -- An answer of a zone that passes has few targets and few sets, and visits few nodes for each name.
-use Rattle.dns_spec.proofs.Common.{◌≡◌, ℕ, ◌+◌, ◌*◌, ◌≤◌, nat_lt, Bool, true, false, not, ◌==◌, inl, List, [], ◌∷◌, ◌++◌, map, sum, length, Option, None, Some, All, filter, flat_map, refl, sym, ap, ◌∙◌, subst, arith, append-nil, length-append, eqb-true, ltb-false, none-some, flat_map-append, length-map, option_to_list, DomainName, is_name, folded, names_equal, same, at_or_below, ResourceRecord, ZoneContents, data_order, at, of_type, with_owner, found, Section, answer, Item, records_of, filter_map-append, filter_map, most_of_a_set, count, large_set, Passes, most_aliases, item, alias_set, last_sought, alias_items, Outcome, outcome_by, outcome_at, outcome, targets_of, targets_inside, targets_outside, targets, address_sets, extra, main_items, items, nodes_to, most_visits, names_looked_up, AllByRecursion, recursion_from_All, inr}
+use Rattle.dns_spec.proofs.Common.{◌≡◌, ℕ, ◌+◌, ◌*◌, ◌≤◌, nat_lt, Bool, true, false, not, ◌==◌, inl, List, [], ◌∷◌, ◌++◌, map, sum, length, Option, None, Some, All, filter, flat_map, refl, sym, ap, subst, arith, append-nil, length-append, eqb-true, ltb-false, none-some, flat_map-append, length-map, option_to_list, DomainName, is_name, folded, same, at_or_below, ResourceRecord, ZoneContents, data_order, at, of_type, with_owner, found, Section, answer, Item, records_of, filter_map-append, filter_map, most_of_a_set, count, large_set, Passes, most_aliases, item, alias_set, last_sought, alias_items, Outcome, outcome_by, outcome_at, outcome, targets_of, targets_inside, targets_outside, targets, address_sets, extra, main_items, items, nodes_to, most_visits, names_looked_up, AllByRecursion, recursion_from_All, inr}
 use Rattle.dns_spec.proofs.DomainNames.NameLaws.{names_equal-decides, length-is_name}
 use Rattle.dns_spec.proofs.Replies.WritableItems.{Named, chain_named, named_target}
 use Rattle.dns_spec.proofs.ZoneChecks.PassedChecks.{passes_check}
@@ -44,12 +44,10 @@ module _ (z : ZoneContents) (origin : folded z.origin ≡ z.origin) (low : AllBy
       few r m =
           let in_at = among_filter (λ (s : ResourceRecord). s.rtype == t) r (at z n) m in
           let in_zone = among_filter (λ (s : ResourceRecord). same s.owner n) r z.records in_at in
-          let is_t : r.rtype ≡ t = eqb-true r.rtype t
-          (filter_test (λ (s : ResourceRecord). s.rtype == t) r (at z n) m) in
+          let is_t : r.rtype ≡ t = grind (arith, eqb-true, filter_test) in
           let alike : folded r.owner ≡ folded n = (names_equal-decides (folded r.owner) (folded
           n)).0 (filter_test (λ (s : ResourceRecord). same s.owner n) r z.records in_at) in
-          let one_name : at z r.owner ≡ at z n = ap (λ (f : DomainName). filter
-          (λ (s : ResourceRecord). names_equal (folded s.owner) f) z.records) alike in
+          let one_name : at z r.owner ≡ at z n = grind arith in
           let fine : large_set z r.owner ≡ false =
           passes_check z origin low passes r in_zone large_set (search (inl, inr) depth 16) in
           let one : nat_lt most_of_a_set (count z r.owner r.rtype) ≡ false =
@@ -57,8 +55,7 @@ module _ (z : ZoneContents) (origin : folded z.origin ≡ z.origin) (low : AllBy
           (at z r.owner) r fine (subst (Among r) (sym one_name) in_at)
           in
           let own : count z r.owner r.rtype ≡ count z n t =
-          ap (λ rs. length (filter (λ (s : ResourceRecord). s.rtype == r.rtype) rs)) one_name
-          ∙ ap (λ (u : ℕ). length (filter (λ (s : ResourceRecord). s.rtype == u) (at z n))) is_t
+          grind arith
           in
           let bound = ltb-false most_of_a_set (count z r.owner r.rtype) one in
           omega (arith, bound, own)

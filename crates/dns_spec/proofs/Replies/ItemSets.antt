@@ -1,6 +1,6 @@
 -- If a zone passes, each item of its replies is the records of one RRset at one owner, with one
 -- TTL.
-use Rattle.dns_spec.proofs.Common.{common_steps, eqb-true, eq-eqb, false≢true, none-some, same_Some, list_any, DomainName, folded, names_equal, same, type_ns, type_cname, ResourceRecord, ZoneContents, at, of_type, rrset, with_owner, records_at, found, ttls_differ, Passes, Section, answer, Item, no_error, item, follows_alias, alias_set, chain, alias_items, asked_records, negative_soa, negative, positive, has_any, outcome_by, outcome_at, outcome, address_sets, extra, items, ◌≡◌, ℕ, ◌≤◌, Bool, true, false, ◌&&◌, not, cond, ◌==◌, ◌⊎◌, inl, inr, List, [], ◌∷◌, ◌++◌, map, length, Option, None, Some, All, filter, flat_map, refl, sym, ap, ap₂, ◌∙◌, subst, arith, IsSetAt, AllByRecursion, recursion_from_All, All-from_recursion}
+use Rattle.dns_spec.proofs.Common.{common_steps, eqb-true, eq-eqb, false≢true, none-some, same_Some, list_any, DomainName, folded, same, type_ns, type_cname, ResourceRecord, ZoneContents, at, of_type, rrset, with_owner, records_at, found, ttls_differ, Passes, Section, answer, Item, no_error, item, follows_alias, alias_set, chain, alias_items, asked_records, negative_soa, negative, positive, has_any, outcome_by, outcome_at, outcome, address_sets, extra, items, ◌≡◌, ℕ, ◌≤◌, Bool, true, false, ◌&&◌, not, cond, ◌==◌, ◌⊎◌, inl, inr, List, [], ◌∷◌, ◌++◌, map, length, Option, None, Some, All, flat_map, refl, sym, ap, ap₂, ◌∙◌, subst, arith, IsSetAt, AllByRecursion, recursion_from_All, All-from_recursion}
 use Rattle.dns_spec.proofs.DomainNames.NameLaws.{names_equal-decides}
 use Rattle.dns_spec.proofs.ZoneChecks.PassedChecks.{passes_check, few_soa, one_soa}
 use Rattle.dns_spec.proofs.General.Elements.{Among, each_at, each_any, each_append, each_flat_map, each_among}
@@ -101,17 +101,14 @@ module _ (z : ZoneContents) (origin : folded z.origin ≡ z.origin) (low : AllBy
       let here = among_filter test r z.records m in
       let alike : folded r.owner ≡ folded n =
       (names_equal-decides (folded r.owner) (folded n)).0 (filter_test test r z.records m) in
-      let xs : at z r.owner ≡ at z n = ap
-      (λ f. filter (λ (x : ResourceRecord). names_equal (folded x.owner) f) z.records) alike in
+      let xs : at z r.owner ≡ at z n = grind arith in
       let fine : ttls_differ z r.owner ≡ false =
       passes_check z origin low passes r here ttls_differ (search (inl, inr) depth 16) in
       let inner = any_false (λ (x : ResourceRecord). list_any
       (λ (y : ResourceRecord). x.rtype == y.rtype && not (x.ttl == y.ttl)) (at z r.owner))
       (at z r.owner) r fine (subst (Among r) (sym xs) m) in
       let pair = any_false (λ (y : ResourceRecord). r.rtype == y.rtype && not (r.ttl == y.ttl))
-      (at z r.owner) s inner (subst (Among s) (sym xs) k) in
-      go (r.ttl == s.ttl) refl
-      (ap (λ b. b && not (r.ttl == s.ttl)) (sym (eq-eqb r.rtype s.rtype e)) ∙ pair)
+      (at z r.owner) s inner (subst (Among s) (sym xs) k) in grind (arith, go, eq-eqb)
     where
       go : (b : Bool) → (r.ttl == s.ttl) ≡ b → not (r.ttl == s.ttl) ≡ false → r.ttl ≡ s.ttl
       go true p q = eqb-true r.ttl s.ttl p

@@ -1,5 +1,5 @@
 -- The octets of a reply spell its message, and are at most its limit.
-use Rattle.dns_spec.proofs.Common.{◌≡◌, ℕ, ◌+◌, ◌^◌, ◌<◌, ◌≤◌, Bool, true, nat_le, ◌==◌, List, [], ◌∷◌, length, take, drop, Option, None, Some, IfSome, All, refl, subst, arith, length-take, mod-lt, cond_both, and_parts, leb-true, none-some, same_Some, cond_some, Octets, DomainName, is_name, number_of, ZoneContents, Header, MessageQuestion, Spells, name_at, Item, layout, message_of, size, items, All-take, All-drop, field16, head_of, reply_head, refusal_head, question_of, question_at, query_read, Decision, silence, header_alone, question_alone, answered, decide, Reply, reply_of, reply_with, reply_octets, reply_message, keep_longest, reply, greatest, sections_in_order, IsWritable, IsAskable, HasRoom, AllByRecursion, recursion_from_All, records_by}
+use Rattle.dns_spec.proofs.Common.{◌≡◌, ℕ, ◌+◌, ◌^◌, ◌<◌, ◌≤◌, true, nat_le, ◌==◌, List, [], ◌∷◌, length, take, drop, Option, None, Some, IfSome, All, refl, subst, arith, length-take, cond_both, and_parts, leb-true, none-some, same_Some, cond_some, Octets, DomainName, is_name, number_of, ZoneContents, Header, MessageQuestion, Spells, name_at, Item, layout, message_of, size, items, All-take, All-drop, field16, head_of, refusal_head, question_of, question_at, query_read, Decision, silence, header_alone, question_alone, answered, decide, Reply, reply_of, reply_with, reply_octets, reply_message, keep_longest, reply, greatest, sections_in_order, IsWritable, IsAskable, HasRoom, AllByRecursion, recursion_from_All, records_by}
 use Rattle.dns_spec.proofs.Messages.NameReading.{name_at_computes}
 use Rattle.dns_spec.proofs.Layouts.MessageParts.{length-question_octets}
 use Rattle.dns_spec.proofs.Layouts.LayoutSize.{length-layout}

@@ -110,8 +110,7 @@ module _ (z : ZoneContents) (q : DomainName) (t : ℕ) where
       go (inl none) = grind (arith, targets_inside, o, targets)
       go (inr none) =
           let answers : targets_of o.answers ≡ [] =
-          ap (λ x. targets_of (alias_items z q t ++ x)) none ∙ ap targets_of (append-nil
-          (alias_items z q t)) ∙ no_targets (alias_items z q t) (each_alias_item z q t) in (
+          grind (arith, append-nil, no_targets, each_alias_item) in (
             targets_inside o,
             targets_outside o,
             ap (λ x. x ++ targets_inside o ++ targets_outside o) answers,

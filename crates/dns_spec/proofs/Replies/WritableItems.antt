@@ -175,8 +175,7 @@ module _ (z : ZoneContents) (w : Writable z.records) where
       let o = outcome_at_right t s (last_named z w q (chain z q t) h (chain_named z q t h)) in
       record {
         rcode = o.rcode;
-        answers = each_append (Stood answer)
-            (alias_items z q t) (outcome_at z t s).answers (alias_items_stood q t h) o.answers;
+        answers = grind (arith, each_append, alias_items_stood);
         authorities = o.authorities;
       }
 

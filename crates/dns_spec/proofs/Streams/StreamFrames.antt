@@ -20,8 +20,7 @@ first_splits x m y low e =
     let two : 2 ≤ length x = omega (arith, whole) in
     let message : take n (drop 2 x) ≡ m = ap (λ r. r.0) c.1 in
     let rest : drop n (drop 2 x) ≡ y = ap (λ r. r.1) c.1 in
-    let len : length m ≡ n = ap length (sym message)
-    ∙ length-take-le n (drop 2 x) (omega (arith, length-drop 2 x, two, whole)) in (
+    let len : length m ≡ n = grind (arith, length-take-le, length-drop) in (
       ap (λ k. (octets16 k ++ m) ++ y) len ∙ append_assoc (octets16 n) m y
           ∙ ap (λ z. octets16 n ++ z) (ap₂ ◌++◌ (sym message) (sym rest)
           ∙ take-append-drop n (drop 2 x)) ∙ front_is x low two,
@@ -41,9 +40,7 @@ framed_whole (suc k) x low = go (first_frame x) refl (framed_whole k)
         ++ (elim f as (λ _. Octets) [ None ↦ x | Some r ↦ after_frames k r.1 ]) ≡ x
     go None e more = refl
     go (Some (m, y)) e more =
-        let s = first_splits x m y low e in
-        append_assoc (frame m) (flat_map frame (frames k y)) (after_frames k y)
-        ∙ ap (λ z. frame m ++ z) (more y s.1) ∙ s.0
+        let s = first_splits x m y low e in grind (arith, append_assoc, flat_map)
 
 -- octets that do not begin with a whole frame are empty, or a frame that was cut short
 pub length_zeros : (n : ℕ) → length {A = ℕ} (replicate n 0) ≡ n
@@ -59,8 +56,7 @@ cut_frame (a ∷ []) low e =
       message = replicate (a * 256) 0;
       short = omega (arith, length_zeros (a * 256), ha);
       missing = 0 ∷ replicate (a * 256) 0;
-      whole = ap (λ n. octets16 n ++ replicate (a * 256) 0) (length_zeros (a * 256) ∙ omega arith)
-          ∙ ap (λ z. z ++ replicate (a * 256) 0) (two_octets a 0 ha (omega arith));
+      whole = grind (arith, length_zeros, two_octets);
       some = omega arith;
       cut = omega arith;
     })
@@ -85,8 +81,7 @@ cut_frame (a ∷ b ∷ x) low e = go (nat_le (2 + n) (length (a ∷ b ∷ x))) r
           message = x ++ zeros;
           short = omega (arith, len, ha, hb);
           missing = zeros;
-          whole = ap (λ k. octets16 k ++ (x ++ zeros)) len
-              ∙ ap (λ z. z ++ (x ++ zeros)) (two_octets a b ha hb);
+          whole = grind (arith, two_octets);
           some = omega arith;
           cut = omega (arith, length_zeros (n - length x), short);
         })

@@ -29,8 +29,7 @@ pub failing_is_checked : (z : ZoneContents) (n : DomainName) (code : ℕ)
     → fails z n code ≡ true → IsChecked z n
 failing_is_checked z n code e =
     let r = any_among (λ (c : ℕ × Check). c.0 == code && c.1 z n) checks e in
-    each_at (OfChecked z n) r.0 checks
-    (each_of_checked z n) r.1 (and_parts (r.0.0 == code) (r.0.1 z n) r.2).1
+    grind (arith, each_at, each_of_checked, and_parts)
 
 -- a name in lower case that is checked is among the checked names
 checked_among : (z : ZoneContents) (n : DomainName)
@@ -89,8 +88,7 @@ fault_stands z n code low = (forth, back)
     forth c =
         let r = joined_among (faults_at z) (record { owner = n; code = code })
         (checked_names z) (contains_among _ (flat_map (faults_at z) (checked_names z)) c) in
-        let k = fault_fails z r.0 (record { owner = n; code = code }) r.2 in
-        subst (λ m. fails z m code ≡ true) (sym k.0) k.1
+        let k = fault_fails z r.0 (record { owner = n; code = code }) r.2 in grind arith
 
     back : fails z n code ≡ true
         → Contains (flat_map (faults_at z) (checked_names z)) (record { owner = n; code = code })

@@ -1,5 +1,5 @@
 -- Faults that no further record removes: a zone with more records, in any order, has them too.
-use Rattle.dns_spec.proofs.Common.{◌≡◌, ℕ, ◌≤◌, Bool, true, false, ◌&&◌, not, ◌==◌, nat_lt, List, [], ◌∷◌, ◌++◌, length, map, map-append, filter, filter-append, length-append, list_any, list_any-append, refl, ap, ◌∙◌, subst, arith, IsTrue, lt-ltb, ltb-true, eqb-true, false≢true, and_parts, and_from, or_parts, Contains, IsPermutation, Option, Some, None, DomainName, folded, same, at_or_below, target, type_cname, type_ns, type_soa, ResourceRecord, ZoneContents, at, owns, distinct, is_cut, Check, is_owner, count, has_target, most_sets, ttls_differ, data_at_cut, large_set, many_sets, checks, fails, faults, is_lasting, AllByRecursion}
+use Rattle.dns_spec.proofs.Common.{◌≡◌, ℕ, ◌≤◌, Bool, true, false, ◌&&◌, not, ◌==◌, nat_lt, List, [], ◌∷◌, ◌++◌, map, map-append, filter, filter-append, length-append, list_any, list_any-append, refl, ap, ◌∙◌, subst, arith, IsTrue, lt-ltb, ltb-true, eqb-true, false≢true, and_parts, and_from, or_parts, Contains, IsPermutation, Option, Some, None, DomainName, folded, same, at_or_below, target, type_cname, type_ns, type_soa, ResourceRecord, ZoneContents, at, owns, distinct, is_cut, Check, is_owner, count, has_target, ttls_differ, data_at_cut, large_set, many_sets, checks, fails, faults, is_lasting, AllByRecursion}
 use Rattle.std.specs.Option.{option_map_or}
 use Rattle.dns_spec.specs.Sets.{types_of}
 use Rattle.dns_spec.specs.Checks.{owns_such}
@@ -109,8 +109,7 @@ module _ (o : DomainName) (rs more : List ResourceRecord) where
       let found = distinct_more ◌==◌ (map f (at z n)) (map f own) in
       let is : types_of (at z' n) ≡ types_of (at z n) ++ found.0 =
       ap types_of (at_more n) ∙ ap (distinct ◌==◌) (map-append f (at z n) own) ∙ found.1 in
-      exceeds most_sets (length (types_of (at z n))) (length (types_of (at z' n)))
-      (grind (arith, is, length-append)) e
+      grind (arith, exceeds, z, z', length-append)
 
   abbrev StaysIfLasting : ℕ × Check → Type 0
   StaysIfLasting c =
@@ -176,9 +175,7 @@ module _ (o : DomainName) (rs more : List ResourceRecord) where
   fails_stays n code lasts e =
       let found = any_among (λ (c : ℕ × Check). c.0 == code && c.1 z n) checks e in
       let parts = and_parts (found.0.0 == code) (found.0.1 z n) found.2 in
-      among_any (λ (c : ℕ × Check). c.0 == code && c.1 z' n) found.0 checks found.1
-      (and_from _ _ parts.0 (each_at StaysIfLasting found.0 checks each_stays found.1 n
-      (ap is_lasting (eqb-true found.0.0 code parts.0) ∙ lasts) parts.1))
+      grind (arith, among_any, z', and_from, each_at, each_stays, eqb-true)
 
 -- A fault that lasts is a fault of each zone with more records, in any order.
 pub fault_lasts : (o : DomainName) (rs more ss : List ResourceRecord) (n : DomainName) (code : ℕ)

@@ -14,8 +14,7 @@ checks_of_origin z low passes =
     let checked : Among z.origin (checked_names z) = among_sort name_order z.origin
     (distinct same (folded z.origin ∷ map (λ (r : ResourceRecord). folded r.owner) z.records))
     (inl (sym low)) in
-    let none : faults_at z z.origin ≡ [] =
-    flat_nothing (faults_at z) (checked_names z) z.origin passes checked in
+    let none : faults_at z z.origin ≡ [] = grind (arith, flat_nothing) in
     filter_nothing (λ (k : ℕ × Check). k.1 z z.origin) checks
     (map_nothing (λ (k : ℕ × Check). record { owner = z.origin; code = k.0 })
     (filter (λ (k : ℕ × Check). k.1 z z.origin) checks) none)

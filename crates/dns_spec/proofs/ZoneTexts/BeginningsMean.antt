@@ -287,8 +287,7 @@ module _ (o : DomainName) (earlier : List Entry) (fault : FileFault)
         let f = first_of_cut c.now_open us in
         let shape : before_all c.part (cut_entries c.now_open us) ≡ (c.part ++ f.first) ∷ f.others =
         ap (before_all c.part) f.is ∙ before_all-cons c.part f.first f.others in
-        let fails : take_turns false (parentheses c.part) ≡ false =
-        ap (take_turns false) (sym same_marks) ∙ turns in
+        let fails : take_turns false (parentheses c.part) ≡ false = grind arith in
         subst (λ x. EntriesMean o before (with_end extent end x) (fault_at fault line)) (sym shape)
         (wrong_first o fault line extent end before
         (c.part ++ f.first) f.others (turns_fail false c.part f.first fails) is at)
@@ -298,8 +297,7 @@ module _ (o : DomainName) (earlier : List Entry) (fault : FileFault)
         → OctetsMean o earlier extent (front ++ more) (fault_at fault line)
     cut_short limit =
         let h = has_tokens (s.middle ++ more) in
-        goes_on h.tokens h.rest h.spelled h.at_end
-        (λ before k. by_why h.tokens h.rest before (last_fault o fault line before last rest k))
+        grind (arith, goes_on, by_why, last_fault)
       where
         by_why : (us : List Token) (end : Octets) (before : List Entry)
             → LastFault o fault line before last rest → EntriesMean o before (with_end extent end

@@ -58,8 +58,7 @@ module _ (b : Bool) (text others : Octets) (p : Token) (front : token_front text
       record {
         spelled = (others, front, r.spelled);
         cuts = λ qs. cut-on b p (ps ++ qs) within ∙ ap (before_first p) (r.cuts qs);
-        shorter = let less = front-shorter text p others front in
-            omega (arith, less, r.shorter);
+        shorter = let less = front-shorter text p others front in omega arith;
       }
   one_more ps (at_parenthesis place) r =
       record {

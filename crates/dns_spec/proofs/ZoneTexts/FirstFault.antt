@@ -1,6 +1,6 @@
 -- The first of all faults of a text is the fault that the text means; without a fault, the text
 -- means the records of its entries.
-use Rattle.dns_spec.proofs.Common.{◌≡◌, ℕ, zero, suc, ◌+◌, ◌-◌, ◌<◌, inl, inr, Bool, true, false, cond, ◌==◌, List, [], ◌∷◌, ◌++◌, append_assoc, length, length-append, take, drop, take-append-drop, take-append_seam, refl, sym, ap, ap₂, ◌∙◌, subst, subst₂, length-drop, lt-ltb, ltb-true, ltb-false, arith, Option, Some, None, DomainName, Octets, ResourceRecord, most_octets, nat_lt, Token, TokensThen, parentheses, take_turns, cut_entries, string_length, Extent, whole_text, beginning, extent_by, EntriesOf, Entry, ended, unended, with_end, in_string, in_token, stop_at, stop_fault, lexical_fault, FileFault, bad_parenthesis, EntryMeaning, faulty, gives, EntryGives, records, fault_at, after, line_after, Means, OctetsMean, PlacedToken, Ending, after_line, at_parenthesis, at_stop, text_after, placed_entry, read_entry, entries_from, PlacedEntry, EntryFault, EntriesGive, AllFaults, line_at}
+use Rattle.dns_spec.proofs.Common.{◌≡◌, ℕ, zero, suc, ◌+◌, ◌-◌, ◌<◌, inl, inr, Bool, true, false, cond, ◌==◌, List, [], ◌∷◌, ◌++◌, append_assoc, length, length-append, take, drop, take-append-drop, take-append_seam, refl, sym, ap, ap₂, ◌∙◌, subst, subst₂, length-drop, lt-ltb, arith, Option, Some, None, DomainName, Octets, ResourceRecord, most_octets, nat_lt, Token, TokensThen, parentheses, take_turns, cut_entries, string_length, Extent, whole_text, beginning, extent_by, EntriesOf, Entry, ended, unended, with_end, in_string, in_token, stop_at, stop_fault, lexical_fault, FileFault, bad_parenthesis, faulty, gives, EntryGives, fault_at, line_after, Means, OctetsMean, PlacedToken, Ending, after_line, at_parenthesis, at_stop, text_after, placed_entry, read_entry, entries_from, PlacedEntry, EntryFault, EntriesGive, AllFaults, line_at}
 use Rattle.dns_spec.specs.Laws.{meaning_by}
 use Rattle.dns_spec.proofs.ZoneTexts.TextTokens.{HasTokens, has_tokens, tokens_then}
 use Rattle.dns_spec.proofs.ZoneTexts.BeginningsMean.{first_of_cut}
@@ -59,8 +59,7 @@ stop_only extent text rest ts now read =
       rest = rest;
       spelled = read.spelled;
       at_end = read.at_end;
-      entries = ap (λ b. record { tokens = ts; end_fault = stop_fault extent b (stop_at rest) }
-          ∷ []) (sym read.opens) ∙ ap (with_end extent rest) (sym read.cuts);
+      entries = grind (arith, stop_fault, stop_at, with_end);
     }
 
 -- an entry with a misplaced parenthesis

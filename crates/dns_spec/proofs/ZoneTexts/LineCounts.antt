@@ -131,11 +131,8 @@ quoted_in o text e n free [] is = tt
 quoted_in o text e n free (q ∷ rest) is = choose (o ∷ text) (q == 34) _ None
     (λ h. record {
       front = (o ∷ take n text) ++ q ∷ [];
-      is = ap (λ xs. o ∷ xs) (sym (take-append-drop n text)
-          ∙ ap (λ xs. take n text ++ xs) is ∙ sym (append_assoc (take n text) (q ∷ []) rest));
-      lines = feeds_append (o ∷ take n text) (q ∷ [])
-          ∙ ap₂ ◌+◌ (none_feeds (o ∷ take n text) (other_octet o 34 e refl, free))
-          (none_feeds (q ∷ []) (other_octet q 34 h refl, tt));
+      is = grind (arith, take-append-drop, append_assoc);
+      lines = grind (arith, feeds_append, none_feeds, other_octet);
     }) (λ h. tt)
 
 word_in : (text : Octets) → InFront text (unquoted_front text)
@@ -143,8 +140,7 @@ word_in text = choose text (word_length text == 0) None _ (λ h. tt)
     (λ h. record {
       front = take (word_length text) text;
       is = sym (take-append-drop (word_length text) text);
-      lines = none_feeds (take (word_length text) text)
-          (run_free is_word_octet word_free 0 text tt);
+      lines = grind (arith, none_feeds, run_free, word_free);
     })
 
 in_front : (text : Octets) → InFront text (token_front text)

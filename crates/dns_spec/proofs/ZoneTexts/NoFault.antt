@@ -1,5 +1,5 @@
 -- A text that means records has no fault.
-use Rattle.dns_spec.proofs.Common.{◌≡◌, ℕ, zero, suc, ◌+◌, ◌-◌, ◌<◌, inl, inr, Bool, true, false, List, [], ◌∷◌, ◌++◌, length, take, drop, refl, sym, ap, ap₂, ◌∙◌, subst, arith, Some, None, DomainName, Octets, ResourceRecord, most_octets, cut_entries, Extent, extent_by, EntriesOf, Entry, ended, with_end, FileFault, bad_parenthesis, faulty, gives, EntryGives, Meaning, records, fault_at, EntriesMean, Means, OctetsMean, PlacedToken, Ending, after_line, at_parenthesis, at_stop, text_after, placed_entry, read_entry, entries_from, PlacedEntry, EntriesGive, AllFaults, false≢true}
+use Rattle.dns_spec.proofs.Common.{◌≡◌, ℕ, zero, suc, ◌+◌, ◌-◌, ◌<◌, inl, inr, Bool, true, false, List, [], ◌∷◌, ◌++◌, length, take, drop, refl, sym, ap, subst, arith, Some, None, DomainName, Octets, ResourceRecord, most_octets, cut_entries, Extent, extent_by, EntriesOf, Entry, ended, with_end, FileFault, bad_parenthesis, faulty, gives, EntryGives, Meaning, records, fault_at, EntriesMean, Means, OctetsMean, PlacedToken, Ending, after_line, at_parenthesis, at_stop, text_after, placed_entry, read_entry, entries_from, PlacedEntry, EntriesGive, AllFaults, false≢true}
 use Rattle.dns_spec.proofs.ZoneTexts.TextTokens.{has_tokens, tokens_cut}
 use Rattle.dns_spec.proofs.ZoneTexts.EntryReading.{ReadsWell, tokens_of, reads_well}
 use Rattle.dns_spec.proofs.ZoneTexts.FirstFault.{ended_first, stop_only, wrong_entry, extent, Lexical, lexical_stop, stops, goes_on}
@@ -9,8 +9,7 @@ entries_once : (x : Extent) (text : Octets) (es fs : List Entry)
     → EntriesOf x text es → EntriesOf x text fs → es ≡ fs
 entries_once x text es fs h k =
     let same = tokens_once text h.tokens k.tokens h.rest k.rest h.spelled k.spelled h.at_end
-    k.at_end in
-    h.entries ∙ ap₂ (λ ts r. with_end x r (cut_entries false ts)) same.0 same.1 ∙ sym k.entries
+    k.at_end in grind (arith, with_end, cut_entries)
 
 records_in : Meaning → List ResourceRecord
 records_in (records rs) = rs

@@ -176,8 +176,7 @@ record_read o earlier Owner f r from small owners words is =
     let known = type_known f.others r.rtype is.rtype in
     let said = said_of_type o earlier f.others r.rtype r.rdata is.rtype is.rdata in (
       record {
-        owner_octets = subst
-            (All (All Octet)) (sym e) (all_octets (folded n) (folded_small n (owners n owns).1));
+        owner_octets = grind (arith, all_octets, folded_small);
         owner = subst (λ m. is_name m ≡ true) (sym e) (is_name-folded n (owners n owns).0);
         lower_owner = record_low o earlier Owner f r is;
         ttl = ttl_fits earlier f.ttl r.ttl is.ttl;
@@ -211,10 +210,7 @@ records_read o text rs from (es, cut, h) =
     records_hold o SmallEntry (λ r. IsReadRecord r × HasZoneType r)
     (λ earlier e keeps kept r is. sort_read o earlier (kind_of e) r
     (small_name o from) keeps (sort_small e kept) is) es rs (entries_small text es cut) h
-    in (
-      All-weaker (λ r. IsReadRecord r × HasZoneType r) IsReadRecord (λ r is. is.0) rs all,
-      All-weaker (λ r. IsReadRecord r × HasZoneType r) HasZoneType (λ r is. is.1) rs all,
-    )
+    in grind (arith, All-weaker)
 
 -- a text does not mean more than 100,000 records
 abbrev counted : List Entry → ℕ
