@@ -73,23 +73,24 @@ pub enum Capacity {
 }
 
 // Out of line: it has 0.4 to 0.5 MB on the stack, which no other service needs.
-/// Serves `turns` connections of a listening socket, or fewer if the server is asked to end, and
-/// returns the sockets once no connection is left. Connections that can't be accepted count too.
+/// Accepts `turns` connections of a listening socket, or fewer if the server is asked to end,
+/// serves them, and returns the sockets once no connection is left. Connections that can't be
+/// accepted count too.
 ///
 /// Calls `begin` once, after it has allocated what it needs for serving, and before it accepts a
 /// connection. Fails only if this allocation or `begin` fails.
 ///
-/// Each connection gets its turns in order; a turn receives at most 16,384 octets. A connection
-/// that for 10 seconds neither completes a message nor takes all its replies is closed. At most
-/// `most` messages are answered on each connection.
+/// The connections that are ready are served one after another, again and again; each time at most
+/// 16,384 octets are received on each. A connection that for 10 seconds neither completes a message
+/// nor takes all its replies is closed. At most `most` messages are answered on each connection.
 ///
-/// Once `turns` connections were accepted, or the server is asked to end, connections that wait for
-/// nothing are closed after 0.3 seconds, and, unless its capacity is one, all others after 3
-/// seconds.
+/// With `Capacity::Many`, once `turns` connections were accepted or the server is asked to end: a
+/// connection without an incomplete message or an unsent reply is closed 0.3 seconds after its last
+/// progress, and after 3 seconds all are closed.
 ///
 /// However the sockets report what they found, and however input is cut: each connection that was
-/// accepted is closed, and what was sent on it is a prefix of the replies to the messages received
-/// on it, in order. If its input has ended, it is all of them.
+/// accepted is closed, and what was sent on it is a prefix of the replies to the first `most`
+/// messages received on it, in order. If its input has ended, all of these replies were sent.
 #[inline(never)]
 pub fn serve_connections<K, E, B>(
     alloc: Global,

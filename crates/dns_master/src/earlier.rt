@@ -30,12 +30,13 @@ pub(crate) struct Earlier {
     ghost low: { folded last.owner ≡ last.owner },
 }
 
-/// Why an entry is faulty: the code; the number of an owner's or of data's fault; and the number of
-/// words of the entry before the one at fault, if a word is at fault.
+/// Why an entry is faulty, apart from a lexical fault.
 #[derive(Clone, Copy, Debug)]
 pub(crate) struct Blame {
     pub(crate) code: ReadCode,
+    /// What is wrong with the owner (`R07`) or the data (`R13`), as a number.
     pub(crate) number: Option<u8>,
+    /// How many words of the entry come before the one at fault. Not used if no word is at fault.
     pub(crate) words: usize,
     ghost source: { code ≢ SourceFailed },
 }

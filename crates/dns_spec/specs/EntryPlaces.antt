@@ -129,7 +129,8 @@ abbrev pub before_end : ℕ → List PlacedToken → Ending → ℕ
 before_end total ps (after_line rest) = before_last ps
 before_end total ps ending = total - length (end_octets ending)
 
--- the entry that begins a text, as it was read
+-- The entry that begins a text, from `read`: its tokens, and how reading it ended. `total` and
+-- `past` are as in `entries_from`.
 abbrev pub placed_entry : ℕ → Octets → Octets → List PlacedToken × Ending → PlacedEntry
 placed_entry total past text read =
     record {
