@@ -33,13 +33,13 @@ const PROGRESS_MILLIS: u64 = 10_000;
 // server is to end or serves one connection at a time.
 const SILENCE_MILLIS: u64 = 300;
 
-// If one connection is served at a time: how long it may send nothing at first.
+// If one connection is served at a time: how long after it was accepted it may send nothing.
 const FIRST_MILLIS: u64 = 2_000;
 
-// If one connection is served at a time: how long it may begin new messages.
+// If one connection is served at a time: how long after it was accepted it may begin new messages.
 const BEGIN_MILLIS: u64 = 10_000;
 
-// How long the server may take to end.
+// How long after it was told to end a server of many connections closes all of them.
 const ENDING_MILLIS: u64 = 3_000;
 
 // The shortest time between two checks of these limits.
@@ -231,7 +231,8 @@ impl<'z, Z: Served, K: Sockets> Connections<'z, Z, K> {
         }
     }
 
-    // From now on the server is to end. What the connections have asked by now is still read.
+    // With `Capacity::Many`: sets the time at which all connections are closed, unless it was set
+    // before. Each connection gets one more turn, so that what it has sent by now is still read.
     fn begin_end(&mut self, now: Duration) {
         if self.end_at.is_none() && self.plan.capacity == Capacity::Many {
             self.end_at = Some(after(now, ENDING_MILLIS));
@@ -247,7 +248,7 @@ impl<'z, Z: Served, K: Sockets> Connections<'z, Z, K> {
         self.may_accept && self.left > 0 && has_place && now >= self.accept_at
     }
 
-    // How long the next wait may last.
+    // How long the next wait may last; `None` if there is nothing to do until a socket is reported.
     fn patience(&self, now: Duration) -> Option<Duration> {
         if self.can_accept(now) || !self.ready.is_empty() {
             return Some(Duration::from_millis(0));
@@ -282,6 +283,7 @@ impl<'z, Z: Served, K: Sockets> Connections<'z, Z, K> {
         }
     }
 
+    // Lets a connection have a turn in the next round.
     fn mark(&mut self, key: usize) {
         if key < KEYS && !self.is_ready[key] {
             self.is_ready[key] = true;
@@ -364,7 +366,7 @@ impl<'z, Z: Served, K: Sockets> Connections<'z, Z, K> {
         }
     }
 
-    // Closes the connections that are late.
+    // Closes the connections whose deadline is over.
     fn sweep(&mut self, now: Duration) {
         if now < self.sweep_at {
             return;
@@ -390,8 +392,8 @@ impl<'z, Z: Served, K: Sockets> Connections<'z, Z, K> {
         }
     }
 
-    // When a connection is closed if it makes no progress, and what is then reported. A connection
-    // with an incomplete message or an unsent reply has a fault to report; another one is silent.
+    // When a connection is closed if it makes no progress, and the fault that is then reported, if
+    // any. `fault` is `None` if it has neither an incomplete message nor an unsent reply.
     fn deadline(&self, peer: &Peer<Z, K::Stream>) -> (Duration, Option<StreamFault>) {
         let fault = peer.lateness();
         let silent = after(peer.progress_at, SILENCE_MILLIS);
@@ -412,6 +414,7 @@ impl<'z, Z: Served, K: Sockets> Connections<'z, Z, K> {
             (Capacity::One, Some(StreamFault::SourceFailed)) if peer.progress_at >= begin_until => {
                 (begin_until, None)
             }
+            // Whatever progress it makes, at most 20 seconds after it was accepted.
             (Capacity::One, _) => (late.min(after(begin_until, PROGRESS_MILLIS)), fault),
         }
     }

@@ -97,8 +97,8 @@ impl<Z: Served, S: Stream> Peer<Z, S> {
         has_input || has_ended || !self.session.unsent().is_empty()
     }
 
-    /// Why the connection is late if it makes no progress; `None` if no message is incomplete and
-    /// no reply unsent.
+    /// The fault of the connection if it makes no progress: `SinkFailed` if a reply is unsent, or
+    /// else `SourceFailed` if a message is incomplete; `None` if neither is so.
     pub(crate) fn lateness(&self) -> Option<StreamFault> {
         if !self.session.unsent().is_empty() {
             return Some(StreamFault::SinkFailed);
@@ -106,8 +106,8 @@ impl<Z: Served, S: Stream> Peer<Z, S> {
         (!self.session.is_between_frames()).then_some(StreamFault::SourceFailed)
     }
 
-    /// Sends what is unsent. If all was sent: receives once, unless octets are pending, answers,
-    /// and sends.
+    /// Sends what is unsent. If all of it was sent, receives once, unless octets are pending; then
+    /// answers the messages, and sends the replies.
     pub(crate) fn turn(
         &mut self,
         zone: &Zone,
@@ -128,7 +128,7 @@ impl<Z: Served, S: Stream> Peer<Z, S> {
             match self.receive(buffer) {
                 Ok(0) if self.session.is_between_frames() => return Ok(Next::Ends),
                 Ok(0) => return Err(StreamFault::Cut),
-                // Then no more can be received before the socket is reported again.
+                // After a short read there is no more input until the socket is reported again.
                 Ok(count) => is_dry = count < PIECE && !self.has_ended,
                 Err(Stopped::WouldBlock) => return Ok(Next::Waits),
                 Err(Stopped::Failed) => return Err(StreamFault::SourceFailed),

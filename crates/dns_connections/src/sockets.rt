@@ -54,9 +54,9 @@ pub enum Found {
 
 /// A listening socket and its connections. Only `wait` waits.
 ///
-/// A connection is reported once when it can be read or written. Callers write until a call would
-/// block. They read until a call would block, or returns fewer octets than there is room for while
-/// no end was reported.
+/// A connection is reported once each time that it becomes readable or writable (edge-triggered).
+/// So callers write until a call would block. They read until a call would block, or until it
+/// returns fewer octets than there is room for and no end was reported.
 pub trait Sockets: Drop {
     /// A connection.
     type Stream: Stream;
