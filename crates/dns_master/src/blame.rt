@@ -13,7 +13,7 @@ use dns_name::Name;
 use dns_rdata::{RdataFault, Word};
 
 impl Blame {
-    /// The blame for the word after this number of words of the entry.
+    /// A fault of the word that comes after this number of words of the entry.
     pub(crate) fn after(words: usize, code: ReadCode) -> Blame
         requires { code ≢ ReadCode.SourceFailed }
         ensures code { result.code ≡ code }
@@ -28,7 +28,8 @@ impl Blame {
     }
 }
 
-/// The blame for an invalid owner, with the number of the name's fault unless the word is quoted.
+/// The fault of an entry whose owner is invalid, with the number of the name's fault unless the
+/// word is quoted.
 pub(crate) fn owner_blame(word: &Word<'_>, origin: &Name) -> Blame
     requires { Nothing (SpelledName origin.now word.now) }
     ensures code { result.code ≡ ReadCode.BadOwner }
@@ -71,9 +72,9 @@ pub(crate) fn data_fault(fault: RdataFault) -> RecordFault
     }
 }
 
-/// The blame for the fault of a record. `words` are the words of the entry after its owner, and
-/// `before` is the number of words before them. If the data is invalid, `in_data` words, counted
-/// from the type on, come before the one at fault.
+/// The fault of a record, with the word at fault. `words` are the words of the entry after its
+/// owner, and `before` is the number of words before them. If the data is invalid, `in_data` words,
+/// counted from the type on, come before the one at fault.
 #[cold]
 #[inline(never)]
 pub(crate) fn record_blame(

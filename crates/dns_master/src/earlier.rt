@@ -41,7 +41,8 @@ pub(crate) struct Blame {
     ghost source: { code ≢ SourceFailed },
 }
 
-/// Why a record is faulty, apart from its owner: the code, and the number of the data's fault.
+/// Why a record is faulty, apart from its owner: the code, and what is wrong with its data (`R13`),
+/// as a number.
 #[derive(Clone, Copy, Debug)]
 pub(crate) struct RecordFault {
     pub(crate) code: ReadCode,

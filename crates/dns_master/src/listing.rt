@@ -131,8 +131,8 @@ struct Listing {
 }
 
 impl Listing {
-    // Takes an entry: adds its record to the collection, or its fault to the list. Returns whether
-    // reading goes on.
+    // Takes an entry: adds its fault to the list or, if it gives a record, this to the collection.
+    // Returns whether reading goes on.
     fn take<C: RecordCollection>(
         &mut self,
         entry: &ScannedEntry<'_, '_>,
@@ -156,7 +156,7 @@ impl Listing {
     }
 }
 
-// Whether the list ends with a fault of this code.
+// Whether the list ends after a fault with this code.
 fn ends_list(code: ReadCode) -> bool
     ensures { result ≡ all.is_last (fault_of code) }
 {

@@ -44,8 +44,8 @@ impl Span {
     }
 }
 
-/// The end of `rest`, which begins with no token, from the first octet that can't continue an
-/// entry. If `rest` begins with an unended string, this is the first octet after the string's own.
+/// For a text `rest` with which no token begins: the text from the first octet on that can't
+/// continue the entry. This is `rest`, or what follows the octets of an unended string.
 pub(crate) fn stop_octets(rest: &[u8]) -> &[u8]
     ensures value { result.now ≡ stop_octets (stop_at rest.now) }
     ensures short { length result.now ≤ length rest.now }
@@ -83,7 +83,7 @@ pub(crate) fn stop_place(text: &[u8], past: &[u8], code: ReadCode, ending: Endin
     }
 }
 
-// The text from the end of an entry on.
+// The text after the line end of an entry, or from the octet on at which reading it stops.
 fn end_octets(ending: Ending<'_>) -> &[u8]
     ensures { result.now ≡ end_octets (shown_ending ending.entry) }
 {
@@ -93,8 +93,8 @@ fn end_octets(ending: Ending<'_>) -> &[u8]
     }
 }
 
-/// The text in which the next entry is read: from the next line on, after a fault. `None` if
-/// reading the entry reached the end of the text, and found no line end there.
+/// The text with which the next entry begins: after the line end of this one or, if it has a fault,
+/// from the next line on. `None` if reading stopped at the end of the text, not after a line end.
 pub(crate) fn text_after(ending: Ending<'_>) -> Option<&[u8]>
     ensures value { MatchOption result (text_after (shown_ending ending.entry) ≡ None)
         (λ rest. text_after (shown_ending ending.entry) ≡ Some rest.now) }

@@ -184,7 +184,7 @@ pub(crate) fn after_blanks(text: &[u8]) -> &[u8]
 {
     match text {
         [first, others @ ..] if is_blank(*first) => match others.first() {
-            // Only these can be a second blank.
+            // A fast path: other octets can't be blank.
             Some(next) if *next <= b' ' => after_long_blank(others),
             _ => others,
         },

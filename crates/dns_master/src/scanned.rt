@@ -19,7 +19,7 @@ use std::alloc::AllocError;
 pub struct EntryFault {
     /// The code.
     pub code: ReadCode,
-    /// The number of the fault of an owner's name, or of the data.
+    /// What is wrong with the owner (`R07`) or the data (`R13`), as a number.
     pub number: Option<u8>,
     /// The place of the fault.
     pub place: Span,
@@ -48,8 +48,8 @@ pub(crate) struct ScannedEntry<'a, 'w> {
 }
 
 impl ScannedEntry<'_, '_> {
-    /// Takes the entry, even if it has a lexical fault, which is then its fault, whatever others it
-    /// has. A record that the entry gives is then `earlier.last`.
+    /// Takes the entry, even if it has a lexical fault, since later entries look back on it. Such a
+    /// fault is returned before any other. A record that the entry gives is then `earlier.last`.
     pub(crate) fn take(
         &self,
         earlier: &mut Earlier,
@@ -92,7 +92,7 @@ impl ScannedEntry<'_, '_> {
         self.octets.len().saturating_sub(self.rest.len())
     }
 
-    // The fault of the entry, from why it is faulty.
+    // The fault of the entry, with the place of the word to blame.
     fn fault_by(&self, blame: Blame) -> EntryFault
         requires short { length self.now.rest.now ≤ length self.now.octets.now }
         ensures { shown_fault result ≡ fault_in self.now (fault_of blame.code) blame.number

@@ -170,7 +170,7 @@ pub record HasFault (o : DomainName) (earlier : List Entry) (e : PlacedEntry)
   pub place : PlaceIs o earlier e f.fault f.place
   pub entry : f.entry ≡ e.begins
 
--- the list ends with this fault of an entry: its code is `R14` or `R15`
+-- the list ends after a fault with this code: `R14` or `R15`
 abbrev pub is_last : FileFault → Bool
 is_last fault = nat_le 14 (fault_code fault)
 

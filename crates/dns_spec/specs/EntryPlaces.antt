@@ -63,13 +63,13 @@ ending_fault extent (after_line rest) = None
 ending_fault extent (at_parenthesis place) = Some bad_parenthesis
 ending_fault extent (at_stop is_open rest) = stop_fault extent is_open (stop_at rest)
 
--- the octets that can't continue an entry, by why no token begins
+-- the text from the first octet on that can't continue an entry, by why no token can be read
 abbrev pub stop_octets : EntryStop → Octets
 stop_octets text_over = []
 stop_octets (in_string place) = place
 stop_octets (in_token place) = place
 
--- the text from the end of an entry on: from its line end, or from the octet at which it stops
+-- the text after the line end of an entry, or from the octet on at which reading it stops
 abbrev pub end_octets : Ending → Octets
 end_octets (after_line rest) = rest
 end_octets (at_parenthesis place) = place
@@ -87,8 +87,9 @@ octet_place before text =
 abbrev pub empty_place : ℕ → Span
 empty_place before = record { begins = before; ends = before }
 
--- The place of a lexical fault: the octet at which reading stops, or for `R15` the first octet past
--- the limit. The examined octets of the text are `total`, and `past` follows them.
+-- The place of a lexical fault: the first octet of `rest`, at which reading stops, or for `R15` the
+-- first octet past the limit. Of the text `total` octets are examined, and `past` is the octet
+-- after them, if there is one.
 abbrev pub fault_place : ℕ → Octets → FileFault → Octets → Span
 fault_place total past too_long rest = octet_place total past
 fault_place total past fault rest = octet_place (total - length rest) rest
@@ -106,7 +107,7 @@ text_after (at_stop is_open []) = None
 text_after (at_stop is_open (o ∷ rest)) = Some (next_line (stop_octets (stop_at (o ∷ rest))))
 
 -- An entry and its places: where it begins; its words, in order; its end, which is before its line
--- end if it has one; and the place of a lexical fault.
+-- end if it has one; and, for each lexical fault that it may have, the place of that fault.
 pub record PlacedEntry : Type 0 where
   pub entry : Entry
   pub begins : ℕ
@@ -124,7 +125,8 @@ before_last [] = 0
 before_last (p ∷ []) = p.place.begins
 before_last (p ∷ q ∷ ps) = before_last (q ∷ ps)
 
--- the number of octets before the end of an entry: before its line end, or up to where it stops
+-- the number of octets before the end of an entry: before its line end, which is its last token, or
+-- before the octet at which reading stops
 abbrev pub before_end : ℕ → List PlacedToken → Ending → ℕ
 before_end total ps (after_line rest) = before_last ps
 before_end total ps ending = total - length (end_octets ending)

@@ -21,10 +21,11 @@ pub(crate) fn target(entry: &StoredRecord) -> Option<NameRef<'_>>
     Rdata::target(entry.rtype, entry.rdata())
 }
 
-/// The last target that was looked up by its key, and indexes among the checked names that are
-/// tried before the next one is looked up. Many names have the same target, and glue often comes
-/// right after its cut, one server right after another. So these are the index of the last target,
-/// and that of the name right after it or, for the first target of a name, right after this name.
+/// The last target that was looked up by its key, and the two indexes among the checked names at
+/// which the next target is tried before it is looked up. Many names have the same target, so the
+/// first index is that of the last target. Glue often comes right after its cut, one server after
+/// another, so the second is that of the name after the last target or, for the first target of a
+/// name, of the name after this one.
 #[derive(Drop)]
 pub(crate) struct LastTarget {
     name: Name,
@@ -33,7 +34,8 @@ pub(crate) struct LastTarget {
     index: usize,
     // The other index that is tried first for the next target.
     next: usize,
-    // How many names `pass_name` has passed, including the one under check.
+    // How many names `pass_name` has passed, including the one under check. So it is the index of
+    // the name after this one.
     passed: usize,
 }
 

@@ -18,8 +18,8 @@ use std::cmp::Ordering;
 #[derive(Clone, Copy)]
 pub(crate) struct SortKey {
     /// The first sixteen octets of the owner's key after the origin's key, as two numbers, which
-    /// tell most owners apart. For an owner whose key does not begin with the origin's key, the
-    /// least or the greatest numbers.
+    /// differ for most owners. If the owner's key does not begin with the origin's key, both are 0,
+    /// for a lower key, or both are the greatest number.
     pub(crate) front: u64,
     pub(crate) next: u64,
     /// The index of the record.
@@ -72,7 +72,7 @@ fn padded(octets: &[u8]) -> [u8; 8]
     eight
 }
 
-// A sort key is moved back only past fewer greater ones than this.
+// A sort key is moved back only past fewer greater ones than this (see `keep_rising`).
 const NEAR: usize = 7;
 
 /// The canonical order of records, by their sort keys.
@@ -81,7 +81,7 @@ pub(crate) struct Order<'a> {
     /// All keys.
     pub(crate) keys: &'a [u8],
     pub(crate) records: &'a [StoredRecord],
-    /// Any of the records. Stands for a record that does not exist.
+    /// Any of the records, for an index that no record has. No sort key has such an index.
     pub(crate) first: &'a StoredRecord,
 }
 
@@ -180,7 +180,8 @@ impl<'a> Order<'a> {
         self.compare_tied(one, other)
     }
 
-    // Compares two records with the same numbers. Out of line, to keep `compare` short in `sort`.
+    // Compares two records whose sort keys have the same numbers. Out of line, to keep `compare`
+    // short in `sort`.
     #[inline(never)]
     fn compare_tied(&self, one: &SortKey, other: &SortKey) -> Ordering
         ensures { result ≡ ordering_then (slice_cmp nat_cmp
