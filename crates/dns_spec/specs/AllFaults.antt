@@ -70,8 +70,9 @@ FaultyUnknown (w ∷ ws) i =
     ⊎ ((n : ℕ) × StatesLength w n
     × MatchBool (list_all is_hex ws) (i ≡ 0) (i ≡ 2 + prefix_len is_hex ws))
 
--- The number of words from the type on before the one at fault: the first faulty word of the data,
--- or the type if the number of words is wrong. A type without a mnemonic asks for `\#` first.
+-- The number of words from the type on before the one at fault: the first faulty word of the data;
+-- the type if the number of words is wrong; or, for a type without a mnemonic, the word after it,
+-- which has to be `\#`.
 abbrev pub FaultyTyped : ℕ → DomainName → List Word → ℕ → Type 0
 FaultyTyped t origin ws i =
     MatchOption (word_fields_of t (length ws)) (i ≡ 1)

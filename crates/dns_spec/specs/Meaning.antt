@@ -92,20 +92,21 @@ is_class_word w =
 abbrev pub is_class_in : Word → Bool
 is_class_in w = is_word (codes "in") w.raw || is_word (codes "class1") w.raw
 
--- the fields of a record by the words after its TTL, by the words after its class, and by all
--- words after its owner
+-- the fields of a record whose TTL comes first, from the words after it
 abbrev pub class_after : Word → List Word → Fields
 class_after ttl [] = record { ttl = Some ttl; class = None; others = [] }
 class_after ttl (w ∷ ws) =
     if is_class_word w then record { ttl = Some ttl; class = Some w; others = ws }
     else record { ttl = Some ttl; class = None; others = w ∷ ws }
 
+-- the fields of a record whose class comes first, from the words after it
 abbrev pub ttl_after : Word → List Word → Fields
 ttl_after class [] = record { ttl = None; class = Some class; others = [] }
 ttl_after class (w ∷ ws) =
     if is_ttl_word w then record { ttl = Some w; class = Some class; others = ws }
     else record { ttl = None; class = Some class; others = w ∷ ws }
 
+-- the fields of a record, from the words after its owner
 abbrev pub fields : List Word → Fields
 fields [] = record { ttl = None; class = None; others = [] }
 fields (w ∷ ws) =

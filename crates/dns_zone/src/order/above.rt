@@ -5,6 +5,8 @@ ghost use Rattle.dns_zone.specs.NameEnd.{ending};
 
 use dns_name::NameRef;
 
+/// Whether a name is at or below another: whether the only suffix of the name that can be the other
+/// is equal to it.
 pub(crate) fn is_at_or_below(name: &NameRef<'_>, other: &NameRef<'_>) -> bool
     requires name { folded name.now ≡ name.now }
     requires other { folded other.now ≡ other.now }

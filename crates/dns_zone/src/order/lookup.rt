@@ -14,7 +14,8 @@ use dns_rdata::RType;
 // Up to this many records are searched one by one. Most owners have no more.
 const FEW: usize = 4;
 
-/// The number of records whose owners are at or below the name. These records must come first.
+/// The number of records whose owners are at or below the name. Condition: these records come
+/// before all others.
 pub(crate) fn count_under(records: &[StoredRecord], name: &NameRef<'_>) -> usize
     requires in_front { IsPartitionedBy
         (λ (r : ResourceRecord). at_or_below r.owner name.now) records.now }
@@ -37,8 +38,8 @@ pub(crate) fn count_under(records: &[StoredRecord], name: &NameRef<'_>) -> usize
     front.partition_point(|entry| is_under(entry, name))
 }
 
-// The index of a record whose owner is not at or below the name, or the number of records. If few
-// records are at or below the name, this is found in few steps.
+// The index of a record whose owner is not at or below the name, or else the number of records. If
+// few records are at or below the name, this takes few steps.
 fn upto_other(records: &[StoredRecord], name: &NameRef<'_>) -> usize
     requires { folded name.now ≡ name.now }
     ensures bound { result ≤ length records.now }
