@@ -52,7 +52,7 @@ fn after(time: Duration, millis: u64) -> Duration {
     time.saturating_add(Duration::from_millis(millis))
 }
 
-// Never used: `serve_connections` chooses these anew.
+// The values here are never used: each call of `serve_connections` has its own ones.
 impl Served for Brand {
     ghost zone = { record { origin = []; records = [] } };
 

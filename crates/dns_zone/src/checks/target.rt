@@ -23,9 +23,9 @@ pub(crate) fn target(entry: &StoredRecord) -> Option<NameRef<'_>>
 
 /// The last target that was looked up by its key, and the two indexes among the checked names at
 /// which the next target is tried before it is looked up. Many names have the same target, so the
-/// first index is that of the last target. Glue often comes right after its cut, one server after
-/// another, so the second is that of the name after the last target or, for the first target of a
-/// name, of the name after this one.
+/// first is the index of the last target. Glue often comes right after its cut, one server after
+/// another, so the second is the index of the name after the last target or, for the first target
+/// of a name, of the name after this one.
 #[derive(Drop)]
 pub(crate) struct LastTarget {
     name: Name,
@@ -92,7 +92,7 @@ impl LastTarget {
         [self.index, self.next]
     }
 
-    /// Keeps the index of a target; if it is no checked name, that of the last one before it.
+    /// Keeps the index of a target or, if the target is no checked name, of the last one before it.
     pub(crate) fn keep_index(&mut self, index: usize)
         ensures { self.new ≡ self.old }
     {
