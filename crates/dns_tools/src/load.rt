@@ -1,6 +1,8 @@
 //! Loads a zone from its file.
 ghost use Rattle.std.specs.Prelude.{◌≡◌, ◌-◌, ◌^◌, ◌<◌};
 ghost use Rattle.dns_name.specs.Counted.{Writes};
+ghost use Rattle.dns_tools.specs.declared.stop.Stop.TheVariants.{Memory};
+ghost use Rattle.dns_tools.specs.declared.load.LoadFault.TheVariants.{Stopped};
 ghost use Rattle.dns_tools.specs.Load.{Loads, fault_of_read, refusal_report};
 
 use crate::line_parts::{LinePart, write_parts};
@@ -9,7 +11,7 @@ use crate::stop::Stop;
 use dns_master::{ReadCode, ReadFault};
 use dns_name::{Name, SinkFailed, Tally};
 use dns_zone::{BuildFault, CheckFaults, CheckedZone, Store, Zone};
-use std::alloc::Global;
+use std::alloc::{AllocError, Global};
 use std::io::{Read, Write};
 
 /// Why a zone file is refused.
@@ -42,6 +44,14 @@ impl From<ReadFault> for LoadFault {
     }
 }
 
+impl From<AllocError> for LoadFault {
+    ghost from_gives = { λ _ refusal. refusal ≡ Stopped Memory };
+
+    fn from(_error: AllocError) -> LoadFault {
+        LoadFault::Stopped(Stop::Memory)
+    }
+}
+
 /// Loads the zone of an origin from its file (RFC 1035 section 5), and makes all checks.
 ///
 /// The file is read relative to the origin in lower case. If the file has a fault, only its first
@@ -70,8 +80,7 @@ where
     requires { source.old.failures < 2 ^ 64 - 1 }
     ensures { Loads R.remaining source.old source.new origin.now result }
 {
-    let zone = Zone::of(alloc, load(alloc, origin, source)?);
-    zone.ok().ok_or(LoadFault::Stopped(Stop::Memory))
+    Ok(Zone::of(alloc, load(alloc, origin, source)?)?)
 }
 
 /// Writes why a file is refused, in the format of the checker's report.
