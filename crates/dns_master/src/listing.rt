@@ -97,8 +97,7 @@ pub fn list_text<C: RecordCollection>(
         list: FaultList::none(alloc),
         earlier: Earlier::none(alloc, origin),
     };
-    let mut buffers = DataBuffers::new(alloc);
-    let mut words = Vec::new(alloc);
+    let (mut buffers, mut words) = (DataBuffers::new(alloc), Vec::new(alloc));
     let mut rest = octets;
     // Only the last entry may be empty, so there are at most this many.
     let mut left = octets.len() + 1;
